@@ -1,0 +1,139 @@
+-- How many numbers below n pass a test, and the sum of a function below n.
+use mathlib.Core.Path.{_≡_, refl, sym, ap, ap₂, _∙_}
+use mathlib.Core.Logic.{_⊎_, inl, inr, ⊎-elim}
+use mathlib.Core.Bool.{Bool, true, false, not}
+use Prim.Native.Nat.{ℕ, zero, suc, _+_, _*_, _%_, _≤_, _<_}
+use native.Mathlib.Nat.{le-refl, add-zero, add-suc, add-assoc, mul-zero, mul-suc, not-suc-le-zero, le-of-suc-le-suc, eq-or-lt-of-le, le-dest}
+use native.Mathlib.Numerals.{add-one}
+use native.Mathlib.Omega.{arith}
+use lib.Dec.{eqb}
+use borrow.Author.Tests.{eq-eqb, ne-eqb}
+use Rattle.lists.specs.Pick.{bit, bit-le, bit-mono, equal-or-not}
+use Rattle.lists.specs.Digits.{mod-of}
+
+unfoldable pub count : (ℕ → Bool) → ℕ → ℕ
+count f zero = 0
+count f (suc n) = count f n + bit (f n)
+
+unfoldable pub sum : (ℕ → ℕ) → ℕ → ℕ
+sum s zero = 0
+sum s (suc n) = sum s n + s n
+
+-- ---- rules that agree below n
+
+pub count-same : (f g : ℕ → Bool) (n : ℕ) → ((k : ℕ) → k < n → f k ≡ g k) → count f n ≡ count g n
+unfolding count
+count-same f g zero e = refl
+count-same f g (suc n) e = (λ i. count-same f g n (λ k h. e k (omega arith)) i + bit (e n (le-refl (suc n)) i))
+
+pub sum-same : (s t : ℕ → ℕ) (n : ℕ) → ((k : ℕ) → k < n → s k ≡ t k) → sum s n ≡ sum t n
+unfolding sum
+sum-same s t zero e = refl
+sum-same s t (suc n) e = (λ i. sum-same s t n (λ k h. e k (omega arith)) i + e n (le-refl (suc n)) i)
+
+-- ---- one number more, as the code counts
+
+pub count-next : (f : ℕ → Bool) (n : ℕ) → count f (n + 1) ≡ count f n + bit (f n)
+unfolding count
+count-next f n = ap (count f) (add-one n)
+
+pub sum-next : (s : ℕ → ℕ) (n : ℕ) → sum s (n + 1) ≡ sum s n + s n
+unfolding sum
+sum-next s n = ap (sum s) (add-one n)
+
+-- ---- m numbers and then n more
+
+pub sum-add : (s : ℕ → ℕ) (m n : ℕ) → sum s (m + n) ≡ sum s m + sum (λ k. s (m + k)) n
+unfolding sum
+sum-add s m zero = ap (sum s) (add-zero m) ∙ sym (add-zero (sum s m))
+sum-add s m (suc n) =
+    ap (sum s) (add-suc m n) ∙ ap (λ (x : ℕ). x + s (m + n)) (sum-add s m n) ∙ add-assoc (sum s m) (sum (λ k. s (m + k)) n) (s (m + n))
+
+-- a count is a sum of bits
+count-sum : (f : ℕ → Bool) (n : ℕ) → count f n ≡ sum (λ k. bit (f k)) n
+unfolding count sum
+count-sum f zero = refl
+count-sum f (suc n) = ap (λ (x : ℕ). x + bit (f n)) (count-sum f n)
+
+pub count-add : (f : ℕ → Bool) (m n : ℕ) → count f (m + n) ≡ count f m + count (λ k. f (m + k)) n
+count-add f m n =
+    count-sum f (m + n) ∙ sum-add (λ k. bit (f k)) m n
+    ∙ sym (ap₂ (λ (a b : ℕ). a + b) (count-sum f m) (count-sum (λ k. f (m + k)) n))
+
+-- n blocks of w numbers
+pub count-blocks : (f : ℕ → Bool) (w n : ℕ) → sum (λ h. count (λ u. f (w * h + u)) w) n ≡ count f (w * n)
+unfolding sum
+count-blocks f w zero = sym (ap (count f) (mul-zero w) ∙ unfold count in refl)
+count-blocks f w (suc n) =
+    ap (λ (x : ℕ). x + count (λ u. f (w * n + u)) w) (count-blocks f w n) ∙ sym (ap (count f) (mul-suc w n) ∙ count-add f (w * n) w)
+
+-- ---- orders
+
+pub count-mono : (f : ℕ → Bool) (m n : ℕ) → m ≤ n → count f m ≤ count f n
+count-mono f m n h =
+    let d = le-dest h in
+    let e : count f n ≡ count f m + count (λ k. f (m + k)) (d .0) = ap (count f) (sym (d .1)) ∙ count-add f m (d .0) in
+    omega arith
+
+pub count-le : (f : ℕ → Bool) (n : ℕ) → count f n ≤ n
+unfolding count
+count-le f zero = omega arith
+count-le f (suc n) = omega (arith, count-le f n, bit-le (f n))
+
+-- a test that holds wherever another does counts no less
+pub count-weaker : (f g : ℕ → Bool) (n : ℕ) → ((k : ℕ) → k < n → f k ≡ true → g k ≡ true) → count f n ≤ count g n
+unfolding count
+count-weaker f g zero h = omega arith
+count-weaker f g (suc n) h = omega (arith, count-weaker f g n (λ i b. h i (omega arith)), bit-mono (f n) (g n) (h n (omega arith)))
+
+-- the same but at one number: at most one more
+pub count-more : (f g : ℕ → Bool) (j n : ℕ) → ((k : ℕ) → k < n → (k ≡ j → ⊥) → f k ≡ true → g k ≡ true) → count f n ≤ count g n + 1
+unfolding count
+count-more f g j zero h = omega arith
+count-more f g j (suc n) h =
+    equal-or-not n j
+    (λ (e : n ≡ j). omega (arith, count-weaker f g n (λ i b. h i (omega arith) (λ (q : i ≡ j). omega arith)), bit-le (f n)))
+    (λ (ne : n ≡ j → ⊥). omega (arith, count-more f g j n (λ i b. h i (omega arith)), bit-mono (f n) (g n) (h n (omega arith) ne)))
+
+-- ---- none, one, all but
+
+pub count-none : (f : ℕ → Bool) (n : ℕ) → ((k : ℕ) → k < n → f k ≡ false) → count f n ≡ 0
+unfolding count
+count-none f zero h = refl
+count-none f (suc n) h = (λ i. count-none f n (λ k b. h k (omega arith)) i + bit (h n (le-refl (suc n)) i))
+
+pub count-all : (f : ℕ → Bool) (n : ℕ) → ((k : ℕ) → k < n → f k ≡ true) → count f n ≡ n
+unfolding count
+count-all f zero h = refl
+count-all f (suc n) h = (λ i. count-all f n (λ k b. h k (omega arith)) i + bit (h n (le-refl (suc n)) i)) ∙ add-one n
+
+bit-not : (t : Bool) → bit t + bit (not t) ≡ 1
+bit-not true = refl
+bit-not false = refl
+
+pub count-not : (f : ℕ → Bool) (n : ℕ) → count f n + count (λ k. not (f k)) n ≡ n
+unfolding count
+count-not f zero = refl
+count-not f (suc n) = omega (arith, count-not f n, bit-not (f n))
+
+-- exactly one number below n is v, where v is below n
+pub count-one : (v n : ℕ) → v < n → count (λ k. eqb k v) n ≡ 1
+unfolding count
+count-one v zero h = absurd (not-suc-le-zero h)
+count-one v (suc n) h = cases (λ l. count-one v n l) (eq-or-lt-of-le (le-of-suc-le-suc h))
+  where
+    cases : (v < n → count (λ k. eqb k v) n ≡ 1) → (v ≡ n) ⊎ (v < n) → count (λ k. eqb k v) n + bit (eqb n v) ≡ 1
+    cases ih (inl e) = (λ i. count-none (λ k. eqb k v) n (λ k b. ne-eqb k v (omega arith)) i + bit (eq-eqb n v (sym e) i))
+    cases ih (inr l) = (λ i. ih l i + bit (ne-eqb n v (omega arith) i))
+
+-- v is the remainder by p of q numbers below p q
+pub count-mod : (p v q : ℕ) → v < p → count (λ x. eqb (x % p) v) (p * q) ≡ q
+count-mod p v zero h = ap (count (λ x. eqb (x % p) v)) (mul-zero p) ∙ unfold count in refl
+count-mod p v (suc q) h =
+    ap (count (λ x. eqb (x % p) v)) (mul-suc p q)
+    ∙ count-add (λ x. eqb (x % p) v) (p * q) p
+    ∙ (λ i. count-mod p v q h i + row i)
+    ∙ add-one q
+  where
+    row : count (λ k. eqb ((p * q + k) % p) v) p ≡ 1
+    row = count-same (λ k. eqb ((p * q + k) % p) v) (λ k. eqb k v) p (λ k l. ap (λ (x : ℕ). eqb x v) (mod-of p q l)) ∙ count-one v p h

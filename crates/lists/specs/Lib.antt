@@ -1,0 +1,9 @@
+pub mod Pick
+pub mod Tabulate
+pub mod Count
+pub mod Search
+pub mod Those
+pub mod Digits
+pub mod Refusal
+pub mod Span
+pub mod Part

@@ -1,0 +1,48 @@
+-- Lists given by what stands at each index.
+use mathlib.Core.Path.{_≡_, refl, ap, sym, subst, _∙_}
+use mathlib.Core.List.{List, [], _∷_}
+use Prim.Native.Nat.{ℕ, zero, suc, _+_, _<_}
+use native.Mathlib.Nat.{not-suc-le-zero, le-of-suc-le-suc}
+use native.Mathlib.Omega.{arith}
+use lib.ListN.{length, getD, set, length-set}
+use lib.Seq.{ext-getD, getD-set-same, getD-set-other}
+use Rattle.lists.specs.Pick.{equal-or-not}
+
+module _ {A : Type 0} where
+  -- n elements, f i at each index i
+  unfoldable pub tabulate : ℕ → (ℕ → A) → List A
+  tabulate zero f = []
+  tabulate (suc n) f = f zero ∷ tabulate n (λ i. f (suc i))
+
+  pub length-tabulate : (n : ℕ) (f : ℕ → A) → length (tabulate n f) ≡ n
+  unfolding tabulate
+  length-tabulate zero f = refl
+  length-tabulate (suc n) f = ap suc (length-tabulate n (λ i. f (suc i)))
+
+  pub getD-tabulate : (n : ℕ) (f : ℕ → A) (i : ℕ) (d : A) → i < n → getD (tabulate n f) i d ≡ f i
+  unfolding tabulate
+  getD-tabulate zero f i d h = absurd (not-suc-le-zero h)
+  getD-tabulate (suc n) f zero d h = refl
+  getD-tabulate (suc n) f (suc i) d h = getD-tabulate n (λ j. f (suc j)) i d (le-of-suc-le-suc h)
+
+  -- a list that has f i at each index below its length n is that table
+  pub tabulated : (n : ℕ) (f : ℕ → A) (l : List A) (d : A) → length l ≡ n → ((i : ℕ) → i < n → getD l i d ≡ f i) → l ≡ tabulate n f
+  tabulated n f l d e h =
+      ext-getD d l (tabulate n f) (e ∙ sym (length-tabulate n f))
+      (λ i b. let b′ : i < n = subst (λ (m : ℕ). i < m) e b in h i b′ ∙ sym (getD-tabulate n f i d b′))
+
+  -- two rules that agree below n give one table
+  pub tabulate-ext : (d : A) (n : ℕ) (f g : ℕ → A) → ((i : ℕ) → i < n → f i ≡ g i) → tabulate n f ≡ tabulate n g
+  tabulate-ext d n f g h = tabulated n g (tabulate n f) d (length-tabulate n f) (λ i b. getD-tabulate n f i d b ∙ h i b)
+
+  -- a loop that stores f i at index i: what is right below i is right below i + 1 after the store
+  pub fill-step : (f : ℕ → A) (l : List A) (i : ℕ) (v d : A) → i < length l → v ≡ f i → ((k : ℕ) → k < i → getD l k d ≡ f k)
+      → (k : ℕ) → k < i + 1 → getD (set l i v) k d ≡ f k
+  fill-step f l i v d h e below k b =
+      equal-or-not k i
+      (λ (q : k ≡ i). ap (λ (j : ℕ). getD (set l i v) j d) q ∙ getD-set-same l i v d h ∙ e ∙ ap f (sym q))
+      (λ (n : k ≡ i → ⊥). getD-set-other l i k v d n ∙ below k (omega arith))
+
+-- n zeros
+abbrev pub zeros : ℕ → List ℕ
+zeros n = tabulate n (λ i. 0)
