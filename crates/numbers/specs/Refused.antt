@@ -6,8 +6,8 @@ use Prim.Native.Nat.{ℕ, _≤_}
 use native.Mathlib.Omega.{arith}
 use lib.Dec.{leb}
 use borrow.Author.Tests.{leb-true, le-leb}
-use Rattle.lists.specs.Pick.{both, both-true, both-hold, not-both-ways, pick-true, pick-false}
-use Rattle.lists.specs.Refusal.{unless, unless-zero}
+use Rattle.lists.specs.Pick.{both, both-true, both-hold, not-both-ways}
+use Rattle.lists.specs.Refusal.{_orElse_, refusalBy, refusal-none, refusal-lowest}
 use Rattle.numbers.specs.Layouts.{Valid, width}
 use Rattle.numbers.specs.declared.Layout.{Layout}
 
@@ -30,7 +30,7 @@ unfoldable pub validb : Layout → Bool
 validb y = allLe (bounds y)
 
 unfoldable pub layoutRefusal : Layout → ℕ
-layoutRefusal y = unless (validb y) 1
+layoutRefusal y = refusalBy ((validb y, 1) ∷ [])
 
 -- ---- the test says what the record says
 
@@ -55,12 +55,12 @@ valid-false y f = not-both-ways (validb y) (λ (e : validb y ≡ true). f (valid
 
 pub accepts : (y : Layout) → Valid y → layoutRefusal y ≡ 0
 unfolding layoutRefusal
-accepts y v = pick-true (validb y) 0 1 (valid-true y v)
+accepts y v = refusal-none ((validb y, 1) ∷ []) (valid-true y v, tt)
 
 pub refuses : (y : Layout) → (Valid y → ⊥) → layoutRefusal y ≡ 1
-unfolding layoutRefusal
-refuses y f = pick-false (validb y) 0 1 (valid-false y f)
+unfolding layoutRefusal refusalBy _orElse_
+refuses y f = simp (valid-false y f)
 
 pub accepted : (y : Layout) → layoutRefusal y ≡ 0 → Valid y
 unfolding layoutRefusal
-accepted y e = valid-of y (unless-zero (validb y) 0 e)
+accepted y e = valid-of y (refusal-lowest 1 ((validb y, 1) ∷ []) (omega arith) refl .none e .0)
