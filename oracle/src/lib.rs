@@ -1,0 +1,10 @@
+//! Splicebell's independent second program: document 01 rendered plainly, one
+//! module for each of its sections, with no thought of speed. It shares no
+//! code with the Rattle crates.
+#![forbid(unsafe_code)]
+
+pub mod draws;
+pub mod layout;
+pub mod permutation;
+pub mod place;
+pub mod programs;

@@ -1,0 +1,32 @@
+//! `oracle expected NAME` prints the expected output of a program;
+//! `oracle names` lists the programs.
+
+use std::io::Write;
+use std::process::ExitCode;
+
+fn main() -> ExitCode {
+    let words: Vec<String> = std::env::args().skip(1).collect();
+    let words: Vec<&str> = words.iter().map(String::as_str).collect();
+    match words[..] {
+        ["expected", name] => expected(name),
+        ["names"] => {
+            println!("{}", oracle::programs::NAMES.join("\n"));
+            ExitCode::SUCCESS
+        }
+        _ => {
+            eprintln!("usage: oracle expected NAME | oracle names");
+            ExitCode::from(2)
+        }
+    }
+}
+
+fn expected(name: &str) -> ExitCode {
+    let Some(text) = oracle::programs::expected(name) else {
+        eprintln!("oracle: no program named {name}");
+        return ExitCode::from(2);
+    };
+    match std::io::stdout().write_all(text.as_bytes()) {
+        Ok(()) => ExitCode::SUCCESS,
+        Err(_) => ExitCode::FAILURE,
+    }
+}
