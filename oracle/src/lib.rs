@@ -3,8 +3,14 @@
 //! code with the Rattle crates.
 #![forbid(unsafe_code)]
 
+pub mod catalogue;
 pub mod draws;
+pub mod field;
+pub mod group;
+pub mod hexline;
 pub mod layout;
 pub mod permutation;
 pub mod place;
+pub mod pool;
 pub mod programs;
+pub mod selfcheck;

@@ -1,5 +1,5 @@
-//! `oracle expected NAME` prints the expected output of a program;
-//! `oracle names` lists the programs.
+//! `oracle expected NAME` prints the expected output of a program, `oracle
+//! names` lists the programs, `oracle selfcheck` tries document 01's examples.
 
 use std::io::Write;
 use std::process::ExitCode;
@@ -13,8 +13,9 @@ fn main() -> ExitCode {
             println!("{}", oracle::programs::NAMES.join("\n"));
             ExitCode::SUCCESS
         }
+        ["selfcheck"] => selfcheck(),
         _ => {
-            eprintln!("usage: oracle expected NAME | oracle names");
+            eprintln!("usage: oracle expected NAME | oracle names | oracle selfcheck");
             ExitCode::from(2)
         }
     }
@@ -28,5 +29,22 @@ fn expected(name: &str) -> ExitCode {
     match std::io::stdout().write_all(text.as_bytes()) {
         Ok(()) => ExitCode::SUCCESS,
         Err(_) => ExitCode::FAILURE,
+    }
+}
+
+fn selfcheck() -> ExitCode {
+    let failures = oracle::selfcheck::failures();
+    for name in &failures {
+        println!("oracle: differs from document 01: {name}");
+    }
+    let tried = oracle::selfcheck::CHECKS.len();
+    println!(
+        "oracle: {} of {tried} examples hold",
+        tried - failures.len()
+    );
+    if failures.is_empty() {
+        ExitCode::SUCCESS
+    } else {
+        ExitCode::FAILURE
     }
 }
