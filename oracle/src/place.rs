@@ -176,7 +176,7 @@ mod tests {
     fn a_tile_gives_every_target_l_units_on_different_targets() {
         let shape = layout(4, 2, 20, 1, 1, 77);
         let numbers = shape.derived();
-        let mut seen = vec![0; 20];
+        let mut seen = [0; 20];
         for group in 0..numbers.groups {
             let mut targets: Vec<u64> = (0..numbers.w)
                 .map(|unit| place(&shape, group, unit).1.target)
