@@ -318,3 +318,117 @@ pub fn show<'a>(
         None => (0, scratch),
     }
 }
+
+#[cfg(test)]
+mod tests {
+    use super::*;
+    use crate::draws::Draws;
+    use crate::layout::layout;
+
+    /// A pool beside the file that it should hold.
+    struct Beside {
+        layout: Layout,
+        record: Record,
+        image: Vec<u8>,
+        file: Vec<u8>,
+    }
+
+    impl Beside {
+        fn new(layout: Layout) -> Beside {
+            Beside {
+                layout,
+                record: Record::default(),
+                image: vec![0; layout.derived().image as usize],
+                file: vec![0; layout.derived().capacity as usize],
+            }
+        }
+
+        fn event(&mut self, draws: &mut Draws) {
+            let (layout, record) = (&self.layout, &self.record);
+            match draws.draw(6) {
+                0..=2 => {
+                    let at = draws.draw(self.file.len() as u64) as usize;
+                    let length = draws.draw((self.file.len() - at) as u64 + 1) as usize;
+                    draws.fill(&mut self.file[at..at + length]);
+                    let bytes = &self.file[at..at + length];
+                    assert_eq!(write(layout, record, &mut self.image, at as u64, bytes), 0);
+                }
+                3 => self.record = fail(layout, record, &self.image, draws.draw(layout.p)).1,
+                4 => self.record = repair(layout, record, &mut self.image).1,
+                _ => {
+                    let size = self.image.len() / layout.p as usize;
+                    for target in record.listed() {
+                        let at = *target as usize * size;
+                        draws.fill(&mut self.image[at..at + size]);
+                    }
+                }
+            }
+        }
+
+        /// Each present content holds its encoding, and a read shows the file.
+        fn check(&self) {
+            let u = self.layout.u as usize;
+            let group_bytes = (self.layout.n * self.layout.u) as usize;
+            for (group, bytes) in self.file.chunks(group_bytes).enumerate() {
+                let data: Vec<Bytes> = bytes.chunks(u).map(<[u8]>::to_vec).collect();
+                let state = group_state(&self.layout, &self.record, group as u64);
+                for (content, present) in state.present.iter().enumerate() {
+                    if let Some(at) = present {
+                        assert_eq!(self.image[*at..at + u], encoded(&data, content));
+                    }
+                }
+            }
+            let mut out = vec![1; self.file.len()];
+            assert_eq!(
+                read(&self.layout, &self.record, &self.image, 0, &mut out),
+                0
+            );
+            assert_eq!(out, self.file);
+        }
+    }
+
+    #[test]
+    fn runs_keep_the_file() {
+        let mut draws = Draws::new(3);
+        for _ in 0..60 {
+            let (n, k) = (1 + draws.draw(8), draws.draw(4));
+            let p = n + 2 * k + draws.draw(4);
+            let shape = layout(n, k, p, 1 + draws.draw(5), 1 + draws.draw(3), draws.high());
+            let mut pool = Beside::new(shape);
+            for _ in 0..25 {
+                pool.event(&mut draws);
+                pool.check();
+            }
+        }
+    }
+
+    #[test]
+    fn the_lowest_refusal_is_given() {
+        let shape = layout(1, 1, 4, 4, 1, 0);
+        let (image, empty) = ([0; 48], Record::default());
+        let refused = |shape: &Layout, record: &Record, image: &[u8], target| {
+            fail(shape, record, image, target).0
+        };
+        let bad = Record { k: 2, ..empty };
+        let one = fail(&shape, &empty, &image, 3).1;
+        assert_eq!(refused(&layout(0, 1, 4, 4, 1, 0), &bad, &image[1..], 4), 1);
+        assert_eq!(refused(&shape, &bad, &image[1..], 4), 2);
+        assert_eq!(refused(&shape, &bad, &image, 4), 3);
+        assert_eq!(refused(&shape, &one, &image, 4), 4);
+        assert_eq!(refused(&shape, &one, &image, 3), 6);
+        assert_eq!(refused(&shape, &one, &image, 0), 7);
+    }
+
+    #[test]
+    fn a_bad_record_is_refused_3() {
+        let shape = layout(1, 2, 6, 4, 1, 0);
+        let refusal = |failed, k, q| Record { failed, k, q }.refusal(&shape);
+        assert_eq!(refusal([5, 4, 9], 2, 2), 0);
+        assert_eq!(refusal([5, 5, 5], 1, 1), 0);
+        assert_eq!(refusal([5, 5, 0], 2, 0), 3);
+        assert_eq!(refusal([6, 5, 0], 2, 0), 3);
+        assert_eq!(refusal([5, 4, 3], 3, 0), 3);
+        assert_eq!(refusal([5, 4, 3], 1, 2), 3);
+        assert_eq!(refusal([u64::MAX; 3], u64::MAX, u64::MAX), 3);
+    }
+}

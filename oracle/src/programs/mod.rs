@@ -6,6 +6,7 @@ pub mod codes;
 pub mod examples;
 pub mod hex_pools;
 pub mod layouts;
+pub mod pool_runs;
 pub mod products;
 
 /// Writes one formatted line into a string.
@@ -18,13 +19,14 @@ macro_rules! line {
 pub(crate) use line;
 
 /// The programs by name.
-pub const NAMES: [&str; 6] = [
+pub const NAMES: [&str; 7] = [
     "examples",
     "layouts",
     "products",
     "codes",
     "catalogue_runs",
     "hex_pools",
+    "pool_runs",
 ];
 
 /// The expected output of the program of this name.
@@ -36,6 +38,7 @@ pub fn expected(name: &str) -> Option<String> {
         "codes" => Some(codes::output()),
         "catalogue_runs" => Some(catalogue_runs::output()),
         "hex_pools" => Some(hex_pools::output()),
+        "pool_runs" => Some(pool_runs::output()),
         _ => None,
     }
 }
