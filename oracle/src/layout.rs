@@ -105,7 +105,7 @@ impl Layout {
         self.numbers().1
     }
 
-    /// N+K, the contents of a group: "Data and parity are the contents."
+    /// N+K of an accepted layout: "Data and parity are the contents."
     pub fn contents(&self) -> u64 {
         self.n + self.k
     }

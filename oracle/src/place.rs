@@ -34,8 +34,8 @@ pub struct FileByte {
     pub image: u64,
 }
 
-/// Where frame `frame` of target `target` begins in the image.
-pub fn begins(layout: &Layout, frame: u64, target: u64) -> u64 {
+/// Where frame `frame` of target `target` begins in the image, both inside.
+pub(crate) fn begins(layout: &Layout, frame: u64, target: u64) -> u64 {
     target * layout.derived().frames * layout.u + frame * layout.u
 }
 

@@ -22,8 +22,8 @@ pub struct Record {
 
 impl Record {
     /// Refusal 3: "k > K, q > k, an entry among the first k that is ≥ P or
-    /// occurs twice", else 0.
-    pub fn refusal(&self, layout: &Layout) -> u64 {
+    /// occurs twice", else 0. The layout is an accepted one.
+    fn refusal(&self, layout: &Layout) -> u64 {
         if self.k > layout.k || self.q > self.k {
             return 3;
         }
@@ -49,7 +49,8 @@ impl Record {
 }
 
 /// The homes of a group's contents under a list, where `targets` are the
-/// targets of its W units: for each content the unit number of its home.
+/// targets of its W units: for each content the unit number of its home. The
+/// list has at most K different targets.
 pub fn homes(contents: usize, targets: &[u64], list: &[u64]) -> Vec<usize> {
     let mut homes: Vec<usize> = (0..contents).collect();
     for (i, failed) in list.iter().enumerate() {
@@ -64,7 +65,7 @@ pub fn homes(contents: usize, targets: &[u64], list: &[u64]) -> Vec<usize> {
     homes
 }
 
-/// The targets of a group's W units.
+/// The targets of the W units of a group that the layout has.
 pub fn unit_targets(layout: &Layout, group: u64) -> Vec<u64> {
     (0..layout.derived().w)
         .map(|unit| place(layout, group, unit).1.target)
