@@ -1,8 +1,8 @@
 -- Which sources each digit adds: for each of eight digits a list of starts and their number.
 use mathlib.Core.Path.{_≡_, refl, sym, ap, ap₂, _∙_}
-use mathlib.Core.Bool.{Bool, true, false}
-use mathlib.Core.List.{List, [], _∷_}
-use Prim.Native.Nat.{ℕ, zero, suc, _+_, _-_, _*_, _<_, _≤_}
+use mathlib.Core.Bool.{true, false}
+use mathlib.Core.List.{List}
+use Prim.Native.Nat.{ℕ, suc, _+_, _-_, _*_, _<_, _≤_}
 use native.Mathlib.Omega.{arith}
 use lib.ListN.{length, getD}
 use Rattle.field.specs.Byte.{_⊕_, double}
@@ -10,9 +10,9 @@ use Rattle.field.specs.Sum.{sumTo}
 use Rattle.field.specs.Ring.{⊕-assoc, ⊕-zero}
 use native.Mathlib.Nat.{add-assoc, not-suc-le-zero}
 use native.Mathlib.Numerals.{add-one}
-use lib.Dec.{ltb, eqb}
-use borrow.Author.Tests.{ltb-false, eqb-true}
-use Rattle.lists.specs.Pick.{both, both-true}
+use lib.Dec.{ltb}
+use borrow.Author.Tests.{ltb-false}
+use Rattle.lists.specs.Tabulate.{allZero, zero-at}
 use Rattle.field.specs.Laws.{double-zero}
 use Rattle.kernel.specs.Horner.{poly}
 use Rattle.lists.specs.Span.{Span}
@@ -35,16 +35,6 @@ pub record Filled (f : ℕ → ℕ) (m : ℕ) (r : List ℕ) : Type 0 where
 -- the byte at `place` of the sum that a plan names
 unfoldable pub planned : List ℕ → List ℕ → List ℕ → ℕ → ℕ → ℕ
 planned src list counts top place = poly top 0 (λ k. picked src list (k * 16) (getD counts k 0) place)
-
--- a list of zeros
-abbrev pub allZero : List ℕ → Bool
-allZero [] = true
-allZero (x ∷ l) = both (eqb x 0) (allZero l)
-
-zero-at : (l : List ℕ) → allZero l ≡ true → (i : ℕ) → getD l i 0 ≡ 0
-zero-at [] t i = refl
-zero-at (x ∷ l) t zero = eqb-true x 0 (both-true (eqb x 0) (allZero l) t .0)
-zero-at (x ∷ l) t (suc i) = zero-at l (both-true (eqb x 0) (allZero l) t .1) i
 
 -- ---- turns of the loops
 
