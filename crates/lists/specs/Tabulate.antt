@@ -59,3 +59,7 @@ pub zero-at : (l : List ℕ) → allZero l ≡ true → (i : ℕ) → getD l i 0
 zero-at [] t i = refl
 zero-at (x ∷ l) t zero = eqb-true x 0 (both-true (eqb x 0) (allZero l) t .0)
 zero-at (x ∷ l) t (suc i) = zero-at l (both-true (eqb x 0) (allZero l) t .1) i
+
+-- entry t of a list of numbers
+abbrev pub at : List ℕ → ℕ → ℕ
+at l t = getD l t 0
