@@ -7,7 +7,6 @@ use native.Mathlib.Nat.{le-trans}
 use native.Mathlib.Omega.{arith}
 use lib.ListN.{length, getD}
 use Rattle.lists.specs.Count.{count}
-use Rattle.field.specs.Byte.{inv}
 use Rattle.parity.specs.Rows.{slot}
 use Rattle.parity.specs.Matrix.{flag}
 use Rattle.parity.specs.Made.{gone-most}
