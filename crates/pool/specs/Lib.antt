@@ -1,0 +1,11 @@
+pub mod Contents
+pub mod Refusals
+pub mod Reading
+pub mod Storing
+pub mod Writing
+pub mod Failing
+pub mod Repairing
+pub mod Looking
+pub mod Files
+pub mod Scribbling
+pub mod Calls
