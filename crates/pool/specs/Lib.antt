@@ -9,3 +9,10 @@ pub mod Looking
 pub mod Files
 pub mod Scribbling
 pub mod Calls
+pub mod Asked
+pub mod StoringLaws
+pub mod Holds
+pub mod WriteHolds
+pub mod FailHolds
+pub mod RepairHolds
+pub mod ScribbleHolds
