@@ -16,3 +16,5 @@ pub mod WriteHolds
 pub mod FailHolds
 pub mod RepairHolds
 pub mod ScribbleHolds
+pub mod LookHolds
+pub mod Changes
