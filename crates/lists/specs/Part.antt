@@ -4,11 +4,11 @@ use mathlib.Core.Path.{_≡_, sym, ap, subst, _∙_}
 use mathlib.Core.List.{List, _++_}
 use Prim.Native.Nat.{ℕ, _+_, _-_, _<_, _≤_}
 use native.Mathlib.Omega.{arith}
-use borrow.Author.Tests.{le-leb, lt-leb, lt-ltb, le-ltb}
+use borrow.Author.Tests.{le-leb, lt-leb, lt-ltb, le-ltb, leb-true, ltb-true}
 use lib.Dec.{leb, ltb}
 use lib.ListN.{length, getD, take, drop, List·getD-append, length-append, length-drop}
 use lib.Seq.{length-take-le, getD-append-add, getD-take, getD-drop}
-use Rattle.lists.specs.Pick.{pick, both, pick-true, pick-false, below-or-not}
+use Rattle.lists.specs.Pick.{pick, both, both-true, pick-true, pick-false, below-or-not}
 
 -- x is one of the k numbers from a on
 unfoldable pub within : ℕ → ℕ → ℕ → Bool
@@ -29,6 +29,10 @@ within-in a k x h b = pick-true (leb a x) _ _ (le-leb a x h) ∙ lt-ltb (x - a) 
 pub within-after : (a k x : ℕ) → a + k ≤ x → within a k x ≡ false
 unfolding within
 within-after a k x h = pick-true (leb a x) _ _ (le-leb a x (omega arith)) ∙ le-ltb (x - a) k (omega arith)
+
+pub within-of : (a k x : ℕ) → within a k x ≡ true → (a ≤ x) × (x - a < k)
+unfolding within
+within-of a k x e = let b = both-true (leb a x) (ltb (x - a) k) e in (leb-true a x (b .0), ltb-true (x - a) k (b .1))
 
 module _ (a k : ℕ) (xs ys : List ℕ) (h : a + k ≤ length xs) (l : length ys ≡ k) where
   pub replaced-length : length (replaced a k xs ys) ≡ length xs

@@ -57,6 +57,11 @@ grant-no (suc n) a b f = refl
 pub grant-yes : {A : Type 0} (n : ℕ) (a b : A) → n ≡ 0 → grant n a b ≡ a
 grant-yes n a b e = ap (λ (m : ℕ). grant m a b) e
 
+-- what holds of the one where the call is accepted, and of the other where it is refused, holds of the answer
+pub grant-either : {A : Type 0} (n : ℕ) (a b : A) (P : A → Type 0) → (n ≡ 0 → P a) → ((n ≡ 0 → ⊥) → P b) → P (grant n a b)
+grant-either zero a b P f g = f refl
+grant-either (suc n) a b P f g = g (λ (e : suc n ≡ 0). absurd (omega arith))
+
 -- ---- a table: its numbers rise and none is 0; each test of it passes; a test of it fails with number m
 
 abbrev pub risingFrom : ℕ → List (Bool × ℕ) → Bool

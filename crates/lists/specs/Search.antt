@@ -129,3 +129,23 @@ lowest-first f (suc n) i h b =
     (λ (u : f n ≡ false). ap f e ∙ u) (either-way (f n)))
     (λ (l : i < n). any-none f n t i l) (eq-or-lt-of-le (le-of-suc-le-suc b)))
     (either-way (any f n))
+
+-- where the answer is below n it passes
+pub lowest-passes : (f : ℕ → Bool) (n : ℕ) → lowest f n < n → f (lowest f n) ≡ true
+lowest-passes f n h =
+    ⊎-elim (λ (t : any f n ≡ true). lowest-is f n t .1)
+    (λ (t : any f n ≡ false). absurd (lt-irrefl n (subst (λ (k : ℕ). k < n) (lowest-none f n t) h))) (either-way (any f n))
+
+-- ---- tests that agree below n
+
+pub all-same : (f g : ℕ → Bool) (n : ℕ) → ((i : ℕ) → i < n → f i ≡ g i) → all f n ≡ all g n
+unfolding all
+all-same f g zero h = refl
+all-same f g (suc n) h = ap₂ both (h n (omega arith)) (all-same f g n (λ i b. h i (omega arith)))
+
+pub lowest-same : (f g : ℕ → Bool) (n : ℕ) → ((i : ℕ) → i < n → f i ≡ g i) → lowest f n ≡ lowest g n
+unfolding lowest
+lowest-same f g zero h = refl
+lowest-same f g (suc n) h =
+    let below : (i : ℕ) → i < n → f i ≡ g i = λ i b. h i (omega arith) in
+    (λ k. pick (any-same f g n below k) (lowest-same f g n below k) (pick (h n (omega arith) k) n (suc n)))

@@ -1,0 +1,89 @@
+-- What a write and a repair change, on any image and for any input: only what they store, and never a byte of a failed target.
+use mathlib.Core.Path.{_≡_, sym, ap, _∙_, subst}
+use mathlib.Core.Logic.{_⊎_, inl, ⊎-elim}
+use mathlib.Core.Bool.{Bool, true, not}
+use mathlib.Core.List.{List}
+use Prim.Native.Nat.{ℕ, _≤_, _<_}
+use native.Mathlib.Omega.{arith}
+use borrow.Author.Tests.{not-true}
+use lib.ListN.{length}
+use Rattle.lists.specs.Pick.{both-true, clash, equal-or-not}
+use Rattle.lists.specs.Tabulate.{at}
+use Rattle.numbers.specs.declared.Layout.{Layout}
+use Rattle.numbers.specs.Layouts.{Valid}
+use Rattle.place.specs.Bytes.{targetHere}
+use Rattle.place.specs.ByteLaws.{target-there}
+use Rattle.homes.specs.declared.Record.{Record}
+use Rattle.homes.specs.Records.{failed}
+use Rattle.homes.specs.Missing.{targetAt, home, missing}
+use Rattle.homes.specs.MissingLaws.{home-lt, home-alive}
+use Rattle.pool.specs.Refusals.{rangeRefusal, repairRefusal}
+use Rattle.pool.specs.Storing.{Stores}
+use Rattle.pool.specs.Writing.{writesPresent, writeImage}
+use Rattle.pool.specs.Repairing.{mends, repairImage}
+use Rattle.pool.specs.Asked.{Sound, range-asked, repair-asked}
+use Rattle.pool.specs.StoringLaws.{storing-changes}
+use Rattle.pool.specs.WriteHolds.{write-refused, write-accepted}
+use Rattle.pool.specs.RepairHolds.{repair-refused, repair-accepted}
+
+-- "A write changes only the bytes it names and the parity bytes at the same unit offsets in the same groups": image byte x is one of them, at the
+-- home of its content, which is present
+abbrev pub Written : Layout → Record → ℕ → ℕ → ℕ → Type 0
+Written y R offset size x = Stores y R (R .q) (writesPresent y R offset size) x
+
+-- "a repair changes only the new homes of units that were missing": image byte x is a byte of one of them
+abbrev pub Mended : Layout → Record → ℕ → Type 0
+Mended y R x = Stores y R (R .k) (mends y R) x
+
+-- the target of what is stored
+stores-target : (y : Layout) (R : Record) (j : ℕ) (on : ℕ → ℕ → ℕ → Bool) (x : ℕ) → Valid y → j ≤ y .k → (w : Stores y R j on x)
+    → targetHere y x ≡ targetAt y (w .g) (home y R j (w .g) (w .c))
+stores-target y R j on x v le w =
+    ap (targetHere y) (w .is-at) ∙ target-there y v (w .g) (home y R j (w .g) (w .c)) (w .o) (w .g-lt) (home-lt y v R (w .g) j le (w .c) (w .c-lt)) (w .o-lt)
+
+module _ (y : Layout) (R : Record) (img : List ℕ) where
+  module _ (offset : ℕ) (bytes : List ℕ) where
+    pub write-changes : (x : ℕ) → x < length img → (at (writeImage y R img offset bytes) x ≡ at img x) ⊎ Written y R offset (length bytes) x
+    write-changes x h =
+        equal-or-not (rangeRefusal y R (length img) offset (length bytes)) 0
+        (λ (z : rangeRefusal y R (length img) offset (length bytes) ≡ 0).
+        let s = range-asked y R (length img) offset (length bytes) z .0 in
+        subst (λ (i : List ℕ). (at i x ≡ at img x) ⊎ Written y R offset (length bytes) x) (sym (write-accepted y R img offset bytes z))
+        (storing-changes y (s .valid) R (R .q) _ _ img (s .len-is) x h))
+        (λ (z : rangeRefusal y R (length img) offset (length bytes) ≡ 0 → ⊥). inl (ap (λ (i : List ℕ). at i x) (write-refused y R img offset bytes z)))
+
+    -- a write changes no byte of a failed target
+    pub write-spares-failed : (x : ℕ) → x < length img → failed R (targetHere y x) ≡ true → at (writeImage y R img offset bytes) x ≡ at img x
+    unfolding missing
+    write-spares-failed x h f =
+        equal-or-not (rangeRefusal y R (length img) offset (length bytes)) 0
+        (λ (z : rangeRefusal y R (length img) offset (length bytes) ≡ 0).
+        let s = range-asked y R (length img) offset (length bytes) z .0 in
+        let a = s .good .few in
+        let b = s .good .mended in
+        ⊎-elim (λ e. e)
+        (λ w. clash (failed R (targetHere y x)) f
+        (ap (failed R) (stores-target y R (R .q) _ x (s .valid) (omega arith) w) ∙ not-true _ (both-true (not (missing y R (w .g) (w .c))) _ (w .is-on) .0)))
+        (write-changes x h))
+        (λ (z : rangeRefusal y R (length img) offset (length bytes) ≡ 0 → ⊥). ap (λ (i : List ℕ). at i x) (write-refused y R img offset bytes z))
+
+  pub repair-changes : (x : ℕ) → x < length img → (at (repairImage y R img) x ≡ at img x) ⊎ Mended y R x
+  repair-changes x h =
+      equal-or-not (repairRefusal y R (length img)) 0
+      (λ (z : repairRefusal y R (length img) ≡ 0).
+      let s = repair-asked y R (length img) z in
+      subst (λ (i : List ℕ). (at i x ≡ at img x) ⊎ Mended y R x) (sym (repair-accepted y R img z))
+      (storing-changes y (s .valid) R (R .k) _ _ img (s .len-is) x h))
+      (λ (z : repairRefusal y R (length img) ≡ 0 → ⊥). inl (ap (λ (i : List ℕ). at i x) (repair-refused y R img z)))
+
+  -- nor does a repair
+  pub repair-spares-failed : (x : ℕ) → x < length img → failed R (targetHere y x) ≡ true → at (repairImage y R img) x ≡ at img x
+  repair-spares-failed x h f =
+      equal-or-not (repairRefusal y R (length img)) 0
+      (λ (z : repairRefusal y R (length img) ≡ 0).
+      let s = repair-asked y R (length img) z in
+      ⊎-elim (λ e. e)
+      (λ w. clash (failed R (targetHere y x)) f
+      (ap (failed R) (stores-target y R (R .k) _ x (s .valid) (s .good .few) w) ∙ home-alive y (s .valid) R (w .g) (R .k) (s .good .few) (w .c) (w .c-lt)))
+      (repair-changes x h))
+      (λ (z : repairRefusal y R (length img) ≡ 0 → ⊥). ap (λ (i : List ℕ). at i x) (repair-refused y R img z))
