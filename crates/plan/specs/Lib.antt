@@ -1,0 +1,4 @@
+pub mod Plans
+pub mod Same
+pub mod Held
+pub mod Steps

@@ -1,0 +1,104 @@
+// Runs of bytes of one group: copied, cleared, and rebuilt where a content is missing.
+ghost use mathlib.Core.Path.{_≡_};
+ghost use mathlib.Core.Bool.{true};
+ghost use Prim.Native.Nat.{ℕ, _+_, _*_, _<_, _≤_};
+ghost use lib.ListN.{length, getD};
+ghost use Rattle.lists.specs.Pick.{pick};
+ghost use Rattle.plan.specs.Plans.{atOf, missOf, Fits};
+ghost use Rattle.runs.specs.Run.{runSet, paint};
+ghost use Rattle.runs.specs.Held.{runOf, zeroRun, heldRun, rankPlace};
+use plan::Plan;
+
+// Zeros in the `len` bytes of `out` from `to` on.
+pub fn clear_run(out: &mut [u8], to: usize, len: usize)
+    requires { ⌜ to + len ≤ length (now out) ⌝ }
+    ensures { λ _. ⌜ now (out .exit) ≡ runSet to len zeroRun (now (out .entry)) ⌝ }
+{
+    let mut i: usize = 0;
+    while i < len {
+        out[to + i] = 0;
+        i += 1;
+    }
+}
+
+// The `len` bytes of `src` from `from` on, in those of `out` from `to` on.
+pub fn put_run(out: &mut [u8], to: usize, src: &[u8], from: usize, len: usize)
+    requires { ⌜ (to + len ≤ length (now out)) × (from + len ≤ length (now src)) ⌝ }
+    ensures { λ _. ⌜ now (out .exit) ≡ runSet to len (runOf (now (src .entry)) from) (now (out .entry)) ⌝ }
+{
+    let mut i: usize = 0;
+    while i < len {
+        out[to + i] = src[from + i];
+        i += 1;
+    }
+}
+
+// Where the units of the slots begin, from unit offset lo on.
+fn slot_starts(p: Plan, size: usize, lo: usize) -> [usize; 16]
+    requires { ⌜ Fits p size × (lo ≤ p .u) ⌝ }
+    ensures { λ r. ⌜ ((j : ℕ) → j < p .n → getD r j 0 ≡ atOf p (getD (p .slots) j 0) + lo) ⌝ }
+{
+    let n = p.n;
+    let at = p.at;
+    let slots = p.slots;
+    let mut r = [0usize; 16];
+    let mut j: usize = 0;
+    while j < n {
+        r[j] = at[slots[j]] + lo;
+        j += 1;
+    }
+    r
+}
+
+// The bytes of the missing content c from unit offset lo on, rebuilt, in those of `out` from `to` on.
+fn rebuild_run(p: Plan, image: &[u8], lo: usize, c: usize, out: &mut [u8], to: usize, len: usize)
+    requires { ⌜ Fits p (length (now image)) × (lo + len ≤ p .u) × (c < p .n + p .k) × (missOf p c ≡ true) × (to + len ≤ length (now out)) ⌝ }
+    ensures { λ _. ⌜ now (out .exit) ≡ runSet to len (heldRun p (now (image .entry)) lo c) (now (out .entry)) ⌝ }
+{
+    let starts = slot_starts(p, image.len(), lo);
+    let rows = p.rows;
+    let rank = p.rank;
+    let row = plan::line(rows, rank[c]);
+    clear_run(out, to, len);
+    kernel::combine(out, to, image, &starts, &row, p.n, len);
+}
+
+// Content c of those that are to be rebuilt, at its place in the scratch.
+fn rebuild_one(p: Plan, image: &[u8], lo: usize, len: usize, c: usize, lost: &mut [u8])
+    requires { ⌜ Fits p (length (now image)) × (lo + len ≤ p .u) × (c < p .n + p .k) × (length (now lost) ≡ 12288) ⌝ }
+    ensures { λ _. ⌜ now (lost .exit) ≡ pick (missOf p c) (runSet (rankPlace p c) len (heldRun p (now (image .entry)) lo c) (now (lost .entry))) (now (lost .entry)) ⌝ }
+{
+    let missing = p.missing;
+    if missing[c] {
+        let rank = p.rank;
+        let r = rank[c];
+        rebuild_run(p, image, lo, c, lost, r * 4096, len);
+    }
+}
+
+// The missing ones of the first m contents, rebuilt, 4096 bytes apart in the scratch.
+pub fn rebuild_runs(p: Plan, image: &[u8], lo: usize, len: usize, m: usize, lost: &mut [u8])
+    requires { ⌜ Fits p (length (now image)) × (lo + len ≤ p .u) × (m ≤ p .n + p .k) × (length (now lost) ≡ 12288) ⌝ }
+    ensures { λ _. ⌜ now (lost .exit) ≡ paint (missOf p) (rankPlace p) len (heldRun p (now (image .entry)) lo) m (now (lost .entry)) ⌝ }
+{
+    let mut c: usize = 0;
+    while c < m {
+        rebuild_one(p, image, lo, len, c, lost);
+        c += 1;
+    }
+}
+
+// The bytes of content c from unit offset lo on, as they stand or rebuilt, in those of `out` from `to` on.
+pub fn read_run(p: Plan, image: &[u8], c: usize, lo: usize, out: &mut [u8], to: usize, len: usize)
+    requires { ⌜ Fits p (length (now image)) × (c < p .n + p .k) × (lo + len ≤ p .u) × (to + len ≤ length (now out)) ⌝ }
+    ensures { λ _. ⌜ now (out .exit) ≡ runSet to len (heldRun p (now (image .entry)) lo c) (now (out .entry)) ⌝ }
+{
+    let missing = p.missing;
+    if missing[c] {
+        rebuild_run(p, image, lo, c, out, to, len);
+        return;
+    }
+    let at = p.at;
+    let from = at[c] + lo;
+    put_run(out, to, image, from, len);
+}
