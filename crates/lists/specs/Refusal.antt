@@ -2,7 +2,7 @@
 use mathlib.Core.Path.{_≡_, refl, sym, ap, _∙_}
 use mathlib.Core.Logic.{_⊎_, inl, inr, ⊎-elim}
 use mathlib.Core.Bool.{Bool, true, false}
-use mathlib.Core.List.{List, [], _∷_}
+use mathlib.Core.List.{List, [], _∷_, _++_}
 use Prim.Native.Nat.{ℕ, zero, suc, _≤_, _<_}
 use native.Mathlib.Nat.{le-trans}
 use native.Mathlib.Omega.{arith}
@@ -133,3 +133,16 @@ refused-answer answer good {n} {m} e f = ap answer e ∙ sym (grant-no m good (a
 
 pub accepted-answer : {A : Type 0} (good bad : A) {n m : ℕ} → n ≡ m → n ≡ 0 → good ≡ grant m good bad
 accepted-answer good bad {n} {m} e z = sym (grant-yes m good bad (sym e ∙ z))
+
+-- ---- one table after another
+
+orElse-assoc : (a b c : ℕ) → (a orElse b) orElse c ≡ a orElse (b orElse c)
+unfolding _orElse_
+orElse-assoc zero b c = refl
+orElse-assoc (suc a) b c = refl
+
+pub refusal-append : (t s : List (Bool × ℕ)) → refusalBy (t ++ s) ≡ refusalBy t orElse refusalBy s
+unfolding refusalBy _orElse_
+refusal-append [] s = refl
+refusal-append (x ∷ xs) s =
+    ap (λ (n : ℕ). unless (x .0) (x .1) orElse n) (refusal-append xs s) ∙ sym (orElse-assoc (unless (x .0) (x .1)) (refusalBy xs) (refusalBy s))

@@ -1,0 +1,96 @@
+// The tests that the pool's calls make, in the order of document 01's table. Inner: the calls
+// themselves are `pool_read`, `pool_write`, `pool_fail`, `pool_repair` and `pool_look`.
+use homes::Record;
+use numbers::Layout;
+ghost use mathlib.Core.Path.{_≡_};
+ghost use Rattle.pool.specs.Refusals.{repairRefusal, rangeRefusal, failRefusal, lookRefusal};
+
+// Layout, image length and record: all that a repair tests, and what every call tests first.
+pub fn pool_refusal(y: Layout, r: Record, len: usize) -> u64
+    ensures { λ n. ⌜ n ≡ repairRefusal y r len ⌝ }
+{
+    let refusal = numbers::refusal(y);
+    if refusal != 0 {
+        return refusal;
+    }
+    let numbers = numbers::numbers_of(y);
+    let image = numbers.image;
+    if len as u64 != image {
+        return 2;
+    }
+    homes::record_refusal(y, r)
+}
+
+// A range of `size` bytes of the file from `offset` on.
+pub fn range_refusal(y: Layout, r: Record, len: usize, offset: u64, size: usize) -> u64
+    ensures { λ n. ⌜ n ≡ rangeRefusal y r len offset size ⌝ }
+{
+    let refusal = pool_refusal(y, r, len);
+    if refusal != 0 {
+        return refusal;
+    }
+    let numbers = numbers::numbers_of(y);
+    let capacity = numbers.capacity;
+    if capacity < offset {
+        return 4;
+    }
+    if capacity - offset < size as u64 {
+        return 4;
+    }
+    0
+}
+
+// A target that is to fail.
+pub fn fail_refusal(y: Layout, r: Record, len: usize, target: u64) -> u64
+    ensures { λ n. ⌜ n ≡ failRefusal y r len target ⌝ }
+{
+    let refusal = pool_refusal(y, r, len);
+    if refusal != 0 {
+        return refusal;
+    }
+    let targets = y.p;
+    let k = r.k;
+    let most = y.k;
+    let failed = r.failed;
+    if targets <= target {
+        return 4;
+    }
+    if homes::is_listed(failed, k as usize, target) {
+        return 6;
+    }
+    if k == most {
+        return 7;
+    }
+    0
+}
+
+// A look at one content of a group, with a scratch of `room` bytes.
+pub fn look_refusal(
+    y: Layout,
+    r: Record,
+    len: usize,
+    room: usize,
+    group: u64,
+    content: u64,
+) -> u64
+    ensures { λ n. ⌜ n ≡ lookRefusal y r len room group content ⌝ }
+{
+    let refusal = pool_refusal(y, r, len);
+    if refusal != 0 {
+        return refusal;
+    }
+    let numbers = numbers::numbers_of(y);
+    let groups = numbers.groups;
+    let contents = y.n + y.k;
+    let unit = y.u;
+    if groups <= group {
+        return 4;
+    }
+    if contents <= content {
+        return 4;
+    }
+    if room as u64 != unit {
+        return 5;
+    }
+    0
+}

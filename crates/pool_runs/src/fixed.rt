@@ -1,0 +1,125 @@
+// The runs that document 01's examples ask for.
+use crate::calls;
+use crate::calls::Run;
+use numbers::Layout;
+
+// The bytes 1, 2, .. of a write.
+fn count_up(bytes: &mut [u8]) {
+    let mut i = 0;
+    while i < bytes.len() {
+        bytes[i] = (i % 255) as u8 + 1;
+        i += 1;
+    }
+}
+
+fn write_counted(run: Run, image: &mut [u8], buffer: &mut [u8], length: u64) {
+    let bytes = calls::front(buffer, length);
+    count_up(bytes);
+    calls::write(run, image, 0, bytes);
+    calls::pool(run, image);
+}
+
+fn read(run: Run, image: &[u8], buffer: &mut [u8], offset: u64, length: u64) {
+    calls::read(run, image, offset, calls::front(buffer, length));
+    calls::pool(run, image);
+}
+
+fn look(run: Run, image: &[u8], buffer: &mut [u8], group: u64, content: u64) {
+    calls::look(
+        run,
+        image,
+        group,
+        content,
+        calls::front(buffer, run.y.u),
+    );
+    calls::pool(run, image);
+}
+
+fn fail(run: Run, image: &[u8], target: u64) -> Run {
+    let after = calls::fail(run, image, target);
+    calls::pool(after, image);
+    after
+}
+
+fn repair(run: Run, image: &mut [u8]) -> Run {
+    let after = calls::repair(run, image);
+    calls::pool(after, image);
+    after
+}
+
+// "Offset 16 with length 0 is accepted, with length 1 refused 4."
+fn at_the_end(run: Run, image: &mut [u8], buffer: &mut [u8]) {
+    read(run, image, buffer, 16, 0);
+    read(run, image, buffer, 16, 1);
+    calls::write(run, image, 16, b"");
+    calls::pool(run, image);
+    calls::write(run, image, 16, b"\xaa");
+    calls::pool(run, image);
+}
+
+// "Failing target 3 makes two contents missing": looks before and after the repair.
+fn failing(run: Run, image: &mut [u8], buffer: &mut [u8]) {
+    let failed = fail(run, image, 3);
+    look(failed, image, buffer, 2, 0);
+    look(failed, image, buffer, 3, 1);
+    look(failed, image, buffer, 0, 0);
+    read(failed, image, buffer, 0, 16);
+    let mended = repair(failed, image);
+    look(mended, image, buffer, 2, 0);
+    look(mended, image, buffer, 3, 1);
+    let again = fail(mended, image, 3);
+    let dud = fail(again, image, 0);
+    let outside = fail(dud, image, 4);
+    read(outside, image, buffer, 0, 16);
+}
+
+fn small(space: &mut [u8], buffer: &mut [u8]) {
+    let y = Layout {
+        n: 1,
+        k: 1,
+        p: 4,
+        u: 4,
+        t: 1,
+        cookie: 0,
+    };
+    let run = calls::begin(y);
+    let image = calls::front(space, run.numbers.image);
+    lists::clear(image);
+    calls::head(0, y);
+    calls::pool(run, image);
+    write_counted(run, image, buffer, 16);
+    at_the_end(run, image, buffer);
+    failing(run, image, buffer);
+}
+
+// Lists of two failures: the targets of units v and w of group 0.
+fn two_failures(i: u64, v: u64, w: u64, space: &mut [u8], buffer: &mut [u8]) {
+    let y = Layout {
+        n: 1,
+        k: 2,
+        p: 5,
+        u: 3,
+        t: 1,
+        cookie: 0,
+    };
+    let run = calls::begin(y);
+    let image = calls::front(space, run.numbers.image);
+    lists::clear(image);
+    calls::head(i, y);
+    calls::pool(run, image);
+    write_counted(run, image, buffer, 3);
+    let first = layout::find_place(y, 0, v);
+    let second = layout::find_place(y, 0, w);
+    let one = fail(run, image, first.target);
+    let two = fail(one, image, second.target);
+    look(two, image, buffer, 0, 0);
+    let mended = repair(two, image);
+    look(mended, image, buffer, 0, 0);
+}
+
+pub fn runs(space: &mut [u8], buffer: &mut [u8]) {
+    small(space, buffer);
+    two_failures(1, 0, 3, space, buffer);
+    two_failures(2, 3, 0, space, buffer);
+    two_failures(3, 4, 0, space, buffer);
+}

@@ -1,0 +1,120 @@
+// Seeded runs of events on pools: writes, failures, repairs, reads, looks, scribbles and refused
+// calls, each answer printed with a checksum of the whole image and the record after it.
+mod bad;
+mod calls;
+mod drawn;
+mod fixed;
+
+use calls::Run;
+use drawn::Range;
+use homes::Record;
+use trial::draw;
+use trial::newline;
+use trial::number;
+use trial::text;
+
+// ---- events
+
+fn write_event(run: Run, image: &mut [u8], buffer: &mut [u8], seed: &mut u64) {
+    let range = drawn::range(run, seed);
+    let bytes = calls::front(buffer, range.length);
+    trial::fill(seed, bytes);
+    calls::write(run, image, range.offset, bytes);
+}
+
+fn read_event(run: Run, image: &[u8], buffer: &mut [u8], seed: &mut u64) {
+    let range = drawn::range(run, seed);
+    calls::read(run, image, range.offset, calls::front(buffer, range.length));
+}
+
+fn look_event(run: Run, image: &[u8], buffer: &mut [u8], seed: &mut u64) {
+    let look = drawn::look(run, seed);
+    calls::look(
+        run,
+        image,
+        look.group,
+        look.content,
+        calls::front(buffer, look.length),
+    );
+}
+
+// Others put any bytes on the whole of one failed target.
+fn scribble_event(run: Run, image: &mut [u8], seed: &mut u64) {
+    let k = run.rec.k;
+    if k == 0 {
+        text(b"idle\n");
+        return;
+    }
+    let i = draw(seed, k);
+    let target = calls::entry(run.rec, i);
+    text(b"scribble");
+    number(target);
+    newline();
+    calls::scribble(run, image, target, seed);
+}
+
+fn event(run: Run, image: &mut [u8], buffer: &mut [u8], seed: &mut u64) -> Run {
+    let kind = draw(seed, 16);
+    if kind < 5 {
+        write_event(run, image, buffer, seed);
+        return run;
+    }
+    if kind < 8 {
+        read_event(run, image, buffer, seed);
+        return run;
+    }
+    if kind < 11 {
+        return calls::fail(run, image, drawn::target(run, seed));
+    }
+    if kind == 11 {
+        return calls::repair(run, image);
+    }
+    if kind < 14 {
+        look_event(run, image, buffer, seed);
+        return run;
+    }
+    if kind == 14 {
+        scribble_event(run, image, seed);
+        return run;
+    }
+    bad::event(run, image, buffer, draw(seed, 11));
+    run
+}
+
+// ---- runs
+
+fn events(start: Run, image: &mut [u8], buffer: &mut [u8], seed: &mut u64) {
+    let mut run = start;
+    for i in 0u64..14 {
+        run = event(run, image, buffer, seed);
+        calls::pool(run, image);
+    }
+    calls::read(
+        run,
+        image,
+        0,
+        calls::front(buffer, run.numbers.capacity),
+    );
+    calls::pool(run, image);
+}
+
+fn drawn_run(i: u64, space: &mut [u8], buffer: &mut [u8], seed: &mut u64) {
+    let y = drawn::layout(seed);
+    let fresh = calls::begin(y);
+    let image = calls::front(space, fresh.numbers.image);
+    lists::clear(image);
+    let run = drawn::start(fresh, image, seed);
+    calls::head(i, y);
+    calls::pool(run, image);
+    events(run, image, buffer, seed);
+}
+
+fn main() {
+    let mut seed: u64 = 40260404;
+    let mut space = [0u8; 65536];
+    let mut buffer = [0u8; 65536];
+    fixed::runs(&mut space, &mut buffer);
+    for i in 4u64..404 {
+        drawn_run(i, &mut space, &mut buffer, &mut seed);
+    }
+}
