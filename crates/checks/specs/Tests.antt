@@ -2,16 +2,16 @@
 use mathlib.Core.Path.{_≡_, sym, ap, _∙_}
 use mathlib.Core.Bool.{Bool, true, false}
 use mathlib.Core.List.{List, [], _∷_}
-use Prim.Native.Nat.{ℕ}
-use lib.Dec.{eqb}
-use borrow.Author.Tests.{eq-eqb, ne-eqb}
+use Prim.Native.Nat.{ℕ, _-_, _≤_, _<_}
+use lib.Dec.{eqb, ltb, leb}
+use borrow.Author.Tests.{eq-eqb, ne-eqb, lt-ltb, le-ltb, le-leb, lt-leb}
 use Rattle.lists.specs.Refusal.{_orElse_, refusalBy, orElse-left, orElse-right, refusal-append, step-passes}
 use Rattle.numbers.specs.declared.Layout.{Layout}
-use Rattle.numbers.specs.Layouts.{Valid, imageLength}
+use Rattle.numbers.specs.Layouts.{Valid, contents, allGroups, capacity, imageLength}
 use Rattle.numbers.specs.Refused.{validb, valid-true}
 use Rattle.homes.specs.declared.Record.{Record}
-use Rattle.homes.specs.Records.{recordGood, recordRefusal}
-use Rattle.pool.specs.Refusals.{poolTests, repairRefusal}
+use Rattle.homes.specs.Records.{failed, recordGood, recordRefusal}
+use Rattle.pool.specs.Refusals.{poolTests, rangeTests, failTests, lookTests, repairRefusal}
 
 module _ (y : Layout) (R : Record) (len : ℕ) where
   -- every call's table begins with these
@@ -36,3 +36,60 @@ module _ (y : Layout) (R : Record) (len : ℕ) where
     by-record e =
         sym
         (step-passes (validb y) 1 _ (valid-true y v) ∙ step-passes (eqb len (imageLength y)) 2 _ (eq-eqb len (imageLength y) e))
+
+-- ---- a range
+
+module _ (y : Layout) (offset size : ℕ) where
+  pub range-beyond : capacity y < offset → 4 ≡ refusalBy (rangeTests y offset size)
+  unfolding refusalBy _orElse_
+  range-beyond h = sym (simp (lt-leb offset (capacity y) h))
+
+  pub range-long : offset ≤ capacity y → capacity y - offset < size → 4 ≡ refusalBy (rangeTests y offset size)
+  unfolding refusalBy _orElse_
+  range-long h l = sym (simp (le-leb offset (capacity y) h, lt-leb size (capacity y - offset) l))
+
+  pub range-inside : offset ≤ capacity y → size ≤ capacity y - offset → 0 ≡ refusalBy (rangeTests y offset size)
+  unfolding refusalBy _orElse_
+  range-inside h l = sym (simp (le-leb offset (capacity y) h, le-leb size (capacity y - offset) l))
+
+-- ---- a target that is to fail
+
+module _ (y : Layout) (R : Record) (target : ℕ) where
+  pub target-outside : y .p ≤ target → 4 ≡ refusalBy (failTests y R target)
+  unfolding refusalBy _orElse_
+  target-outside h = sym (simp (le-ltb target (y .p) h))
+
+  module _ (inside : target < y .p) where
+    pub target-again : failed R target ≡ true → 6 ≡ refusalBy (failTests y R target)
+    unfolding refusalBy _orElse_
+    target-again t = sym (simp (lt-ltb target (y .p) inside, t))
+
+    module _ (new : failed R target ≡ false) where
+      pub target-dud : R .k ≡ y .k → 7 ≡ refusalBy (failTests y R target)
+      unfolding refusalBy _orElse_
+      target-dud e = sym (simp (lt-ltb target (y .p) inside, new, eq-eqb (R .k) (y .k) e))
+
+      pub target-fails : (R .k ≡ y .k → ⊥) → 0 ≡ refusalBy (failTests y R target)
+      unfolding refusalBy _orElse_
+      target-fails f = sym (simp (lt-ltb target (y .p) inside, new, ne-eqb (R .k) (y .k) f))
+
+-- ---- a look
+
+module _ (y : Layout) (room group content : ℕ) where
+  pub group-outside : allGroups y ≤ group → 4 ≡ refusalBy (lookTests y room group content)
+  unfolding refusalBy _orElse_
+  group-outside h = sym (simp (le-ltb group (allGroups y) h))
+
+  module _ (inside : group < allGroups y) where
+    pub content-outside : contents y ≤ content → 4 ≡ refusalBy (lookTests y room group content)
+    unfolding refusalBy _orElse_
+    content-outside h = sym (simp (lt-ltb group (allGroups y) inside, le-ltb content (contents y) h))
+
+    module _ (one : content < contents y) where
+      pub wrong-room : (room ≡ y .u → ⊥) → 5 ≡ refusalBy (lookTests y room group content)
+      unfolding refusalBy _orElse_
+      wrong-room f = sym (simp (lt-ltb group (allGroups y) inside, lt-ltb content (contents y) one, ne-eqb room (y .u) f))
+
+      pub right-room : room ≡ y .u → 0 ≡ refusalBy (lookTests y room group content)
+      unfolding refusalBy _orElse_
+      right-room e = sym (simp (lt-ltb group (allGroups y) inside, lt-ltb content (contents y) one, eq-eqb room (y .u) e))
