@@ -18,3 +18,8 @@ pub mod RepairHolds
 pub mod ScribbleHolds
 pub mod LookHolds
 pub mod Changes
+pub mod Blind
+pub mod Cuts
+pub mod Sweep
+pub mod Turn
+pub mod Progress
