@@ -28,7 +28,7 @@ use Rattle.pool.specs.Holds.{Holds}
 
 module _ (y : Layout) (R : Record) (t : ℕ) where
   -- entries below k are as they were
-  entry-same : (i : ℕ) → i < R .k → entry (grown R t) i ≡ entry R i
+  pub entry-same : (i : ℕ) → i < R .k → entry (grown R t) i ≡ entry R i
   entry-same i b = getD-set-other (R .failed) (R .k) i t 0 (λ (e : i ≡ R .k). lt-irrefl (R .k) (subst (λ (x : ℕ). x < R .k) e b))
 
   pub home-grown : (j g c : ℕ) → j ≤ R .k → home y (grown R t) j g c ≡ home y R j g c

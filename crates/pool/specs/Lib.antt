@@ -19,6 +19,8 @@ pub mod ScribbleHolds
 pub mod LookHolds
 pub mod Changes
 pub mod Blind
+pub mod Elsewhere
+pub mod ElsewhereKept
 pub mod Cuts
 pub mod Sweep
 pub mod Turn
