@@ -25,3 +25,4 @@ pub mod Cuts
 pub mod Sweep
 pub mod Turn
 pub mod Progress
+pub mod Groups

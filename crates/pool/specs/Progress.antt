@@ -16,7 +16,7 @@ use Rattle.pool.specs.Turn.{both-off}
 unfoldable pub upTo : ℕ → ℕ → ℕ → ℕ → ℕ → Bool
 upTo g₀ c₀ g o c = pick (ltb g g₀) true (both (eqb g g₀) (ltb c c₀))
 
-ltb-suc : (a b : ℕ) → ltb a (suc b) ≡ pick (eqb a b) true (ltb a b)
+pub ltb-suc : (a b : ℕ) → ltb a (suc b) ≡ pick (eqb a b) true (ltb a b)
 ltb-suc a b =
     ⊎-elim
     (λ (t : eqb a b ≡ true). let e : a ≡ b = eqb-true a b t in lt-ltb a (suc b) (omega arith) ∙ sym (pick-true (eqb a b) true (ltb a b) t))
