@@ -1,6 +1,6 @@
 -- The loop that fills the missing units, one run each: what it has done after q of them, a turn, and that it comes to the whole.
 use mathlib.Core.Path.{_≡_, refl, sym, ap, ap₂, _∙_, subst, subst⁻¹}
-use mathlib.Core.Bool.{Bool, true, false, not}
+use mathlib.Core.Bool.{Bool, true, false}
 use mathlib.Core.Logic.{inl, inr, ⊎-elim}
 use mathlib.Core.List.{List, []}
 use Prim.Native.Nat.{ℕ, suc, _+_, _-_, _*_, _/_, _<_, _≤_}
@@ -19,12 +19,12 @@ use Rattle.field.specs.Byte.{mul}
 use Rattle.field.specs.Sum.{sum-cong}
 use Rattle.kernel.specs.Combine.{sumAt}
 use Rattle.kernel.specs.InPlace.{Apart}
-use Rattle.parity.specs.Group.{Solvable, there, gone, rebuilt}
+use Rattle.parity.specs.Group.{Solvable, gone, rebuilt}
 use Rattle.parity.specs.Restores.{lost-most}
+use Rattle.parity.specs.Local.{slot-there}
 use Rattle.parity.specs.Matrix.{Holds, RowsFor}
 use Rattle.parity.specs.Made.{held-at, gone-most}
 use Rattle.parity.specs.Rows.{slot, rowOf, row-gives}
-use Rattle.parity.specs.Slots.{slot-there}
 use Rattle.coding.specs.Buffer.{column, rebuiltByte, rebuiltOf}
 use Rattle.coding.specs.Units.{unit-end}
 

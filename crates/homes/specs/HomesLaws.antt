@@ -26,7 +26,7 @@ moved-off target m K e i c ne = pick-false (eqb (target (homes target m K e i c)
 module _ (target : ℕ → ℕ) (m K : ℕ) (e : ℕ → ℕ) where
   -- spare i is spoken for: it is a home, or lies on a listed target
   abbrev spoken : ℕ → (ℕ → ℕ) → ℕ → Bool
-  spoken j h i = not (free target m K e j h i)
+  spoken j h i = not (free target m e j h i)
 
   spoken-home : (j : ℕ) (h : ℕ → ℕ) (i c : ℕ) → c < m → h c ≡ m + i → spoken j h i ≡ true
   unfolding free
@@ -41,7 +41,7 @@ module _ (target : ℕ → ℕ) (m K : ℕ) (e : ℕ → ℕ) where
       at true = ap (λ (b : Bool). not (not b)) q
       at false = refl
 
-  free-is : (j : ℕ) (h : ℕ → ℕ) (i : ℕ) → free target m K e j h i ≡ true → ((c : ℕ) → c < m → h c ≡ m + i → ⊥) × (listed e j (target (m + i)) ≡ false)
+  free-is : (j : ℕ) (h : ℕ → ℕ) (i : ℕ) → free target m e j h i ≡ true → ((c : ℕ) → c < m → h c ≡ m + i → ⊥) × (listed e j (target (m + i)) ≡ false)
   unfolding free
   free-is j h i q =
       let r = both-true (not (any (λ c. eqb (h c) (m + i)) m)) (not (listed e j (target (m + i)))) q in (
@@ -63,16 +63,16 @@ module _ (target : ℕ → ℕ) (m K : ℕ) (e : ℕ → ℕ) where
       (either-way (any (λ c. eqb (h c) (m + i)) m))
 
   module _ (apart : (d d′ : ℕ) → d < m + K → d′ < m + K → target d ≡ target d′ → d ≡ d′) where
-    move-apart : (j : ℕ) (h : ℕ → ℕ) → any (free target m K e (suc j) h) K ≡ true → Apart m (m + K) h → Apart m (m + K) (move target m K e j h)
+    move-apart : (j : ℕ) (h : ℕ → ℕ) → any (free target m e (suc j) h) K ≡ true → Apart m (m + K) h → Apart m (m + K) (move target m K e j h)
     unfolding move
     move-apart j h room a =
-        let r = lowest-is (free target m K e (suc j) h) K room in
-        let none = free-is (suc j) h (lowest (free target m K e (suc j) h) K) (r .1) .0 in
+        let r = lowest-is (free target m e (suc j) h) K room in
+        let none = free-is (suc j) h (lowest (free target m e (suc j) h) K) (r .1) .0 in
         record {
           below = λ c b.
               ⊎-elim
-              (λ (q : eqb (target (h c)) (e j) ≡ true). subst (λ (x : ℕ). x < m + K) (sym (pick-true (eqb (target (h c)) (e j)) (m + lowest (free target m K e (suc j) h) K) (h c) q)) (omega (arith, r .0)))
-              (λ (q : eqb (target (h c)) (e j) ≡ false). subst (λ (x : ℕ). x < m + K) (sym (pick-false (eqb (target (h c)) (e j)) (m + lowest (free target m K e (suc j) h) K) (h c) q)) (a .below c b))
+              (λ (q : eqb (target (h c)) (e j) ≡ true). subst (λ (x : ℕ). x < m + K) (sym (pick-true (eqb (target (h c)) (e j)) (m + lowest (free target m e (suc j) h) K) (h c) q)) (omega (arith, r .0)))
+              (λ (q : eqb (target (h c)) (e j) ≡ false). subst (λ (x : ℕ). x < m + K) (sym (pick-false (eqb (target (h c)) (e j)) (m + lowest (free target m e (suc j) h) K) (h c) q)) (a .below c b))
               (either-way (eqb (target (h c)) (e j)));
           differ = λ c c′ b b′ z.
               ⊎-elim
@@ -103,8 +103,8 @@ module _ (target : ℕ → ℕ) (m K : ℕ) (e : ℕ → ℕ) where
             (listed-suc e j (target (m + i)) w))
             (spoken-by (suc j) h i s)
 
-        pub room : any (free target m K e (suc j) h) K ≡ true
-        room = any-room (free target m K e (suc j) h) K (omega (arith, count-weaker (spoken (suc j) h) (spoken j h) K still))
+        pub room : any (free target m e (suc j) h) K ≡ true
+        room = any-room (free target m e (suc j) h) K (omega (arith, count-weaker (spoken (suc j) h) (spoken j h) K still))
 
         -- after the move only the spare that was chosen is new
         moved-few : count (spoken (suc j) (move target m K e j h)) K ≤ suc j
@@ -112,13 +112,13 @@ module _ (target : ℕ → ℕ) (m K : ℕ) (e : ℕ → ℕ) where
         moved-few =
             omega (
               arith,
-              count-more (spoken (suc j) (move target m K e j h)) (spoken j h) (lowest (free target m K e (suc j) h) K) K
+              count-more (spoken (suc j) (move target m K e j h)) (spoken j h) (lowest (free target m e (suc j) h) K) K
                   (λ i b ne s.
                   still i b
                   (⊎-elim
                   (λ (w : (c : ℕ) × (c < m) × (move target m K e j h c ≡ m + i)).
                   ⊎-elim
-                  (λ (q : eqb (target (h (w .0))) (e j) ≡ true). absurd (ne (let z : m + lowest (free target m K e (suc j) h) K ≡ m + i = sym (pick-true _ _ _ q) ∙ w .2 in omega arith)))
+                  (λ (q : eqb (target (h (w .0))) (e j) ≡ true). absurd (ne (let z : m + lowest (free target m e (suc j) h) K ≡ m + i = sym (pick-true _ _ _ q) ∙ w .2 in omega arith)))
                   (λ (q : eqb (target (h (w .0))) (e j) ≡ false). spoken-home (suc j) h i (w .0) (w .1) (sym (pick-false _ _ _ q) ∙ w .2))
                   (either-way (eqb (target (h (w .0))) (e j))))
                   (λ (w : listed e (suc j) (target (m + i)) ≡ true). spoken-listed (suc j) h i w)
@@ -198,7 +198,7 @@ module _ (target : ℕ → ℕ) (m K : ℕ) (e : ℕ → ℕ) where
         let v = invariant j (omega arith) in
         let r = room (homes target m K e j) (v .0) j (omega arith) (v .1) c b (eqb-true _ _ q) in
         ap (λ (d : ℕ). listed e (suc j) (target d)) (pick-true (eqb (target (homes target m K e j c)) (e j)) _ _ q)
-        ∙ free-is (suc j) (homes target m K e j) (lowest (free target m K e (suc j) (homes target m K e j)) K) (lowest-is (free target m K e (suc j) (homes target m K e j)) K r .1) .1)
+        ∙ free-is (suc j) (homes target m K e j) (lowest (free target m e (suc j) (homes target m K e j)) K) (lowest-is (free target m e (suc j) (homes target m K e j)) K r .1) .1)
         (λ (q : eqb (target (homes target m K e j c)) (e j) ≡ false).
         ap (λ (d : ℕ). listed e (suc j) (target d)) (pick-false (eqb (target (homes target m K e j c)) (e j)) _ _ q)
         ∙ still-off (homes-alive j (omega arith) c b) (eqb-false _ _ q))
@@ -241,15 +241,15 @@ module _ (target : ℕ → ℕ) (m K : ℕ) (e : ℕ → ℕ) where
       one ih = moved-off target m K e (q + j) c (λ z. unlisted e k _ h (q + j) (omega arith) (sym (sym (ap target ih) ∙ z))) ∙ ih
 
 -- ---- homes under the first j entries depend on those entries alone
-free-same : (target : ℕ → ℕ) (m K : ℕ) (e e′ : ℕ → ℕ) (j : ℕ) (h : ℕ → ℕ) → ((i : ℕ) → i < j → e i ≡ e′ i) → free target m K e j h ≡ free target m K e′ j h
+free-same : (target : ℕ → ℕ) (m : ℕ) (e e′ : ℕ → ℕ) (j : ℕ) (h : ℕ → ℕ) → ((i : ℕ) → i < j → e i ≡ e′ i) → free target m e j h ≡ free target m e′ j h
 unfolding free
-free-same target m K e e′ j h same =
+free-same target m e e′ j h same =
     fun-ext (λ (i : ℕ). ap (λ (b : Bool). both (not (any (λ c. eqb (h c) (m + i)) m)) (not b)) (listed-same e e′ j (target (m + i)) same))
 
 move-same : (target : ℕ → ℕ) (m K : ℕ) (e e′ : ℕ → ℕ) (j : ℕ) (h : ℕ → ℕ) → ((i : ℕ) → i < suc j → e i ≡ e′ i) → move target m K e j h ≡ move target m K e′ j h
 unfolding move
 move-same target m K e e′ j h same =
-    fun-ext (λ (c : ℕ). (λ i. pick (eqb (target (h c)) (same j (le-refl (suc j)) i)) (m + lowest (free-same target m K e e′ (suc j) h same i) K) (h c)))
+    fun-ext (λ (c : ℕ). (λ i. pick (eqb (target (h c)) (same j (le-refl (suc j)) i)) (m + lowest (free-same target m e e′ (suc j) h same i) K) (h c)))
 
 pub homes-same : (target : ℕ → ℕ) (m K : ℕ) (e e′ : ℕ → ℕ) (j : ℕ) → ((i : ℕ) → i < j → e i ≡ e′ i) → homes target m K e j ≡ homes target m K e′ j
 unfolding homes

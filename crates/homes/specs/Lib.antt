@@ -5,3 +5,6 @@ pub mod Records
 pub mod RecordLaws
 pub mod Missing
 pub mod MissingLaws
+pub mod Standing
+pub mod StandingLaws
+pub mod Steps

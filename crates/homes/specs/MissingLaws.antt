@@ -1,14 +1,13 @@
 -- Homes of a layout's contents: units of the group, all different, on no listed target; a present content keeps its home under the whole
 -- list; at most K contents of a group are missing; and entries from k on are never read.
-use mathlib.Core.Path.{_≡_, refl, sym, ap, _∙_}
-use mathlib.Core.Bool.{Bool, true, false}
+use mathlib.Core.Path.{_≡_, ap, _∙_}
+use mathlib.Core.Bool.{false}
 use mathlib.Core.List.{List}
 use Prim.Native.Nat.{ℕ, _+_, _-_, _≤_, _<_}
 use native.Mathlib.Omega.{arith}
 use Rattle.lists.specs.Count.{count}
 use Rattle.numbers.specs.declared.Layout.{Layout}
 use Rattle.numbers.specs.Layouts.{Valid, width, contents}
-use Rattle.place.specs.Places.{placeOf}
 use Rattle.place.specs.PlaceLaws.{apart}
 use Rattle.homes.specs.declared.Record.{Record}
 use Rattle.homes.specs.Listed.{listed, listed-same}
@@ -17,15 +16,16 @@ use Rattle.homes.specs.HomesLaws.{Apart, homes-apart, homes-alive, on-li
 use Rattle.homes.specs.Records.{entry, failed, Good}
 use Rattle.homes.specs.Missing.{targetAt, home, missing}
 
-module _ (y : Layout) (v : Valid y) (R : Record) (g : ℕ) where
-  pub units-apart : (d d′ : ℕ) → d < contents y + y .k → d′ < contents y + y .k → targetAt y g d ≡ targetAt y g d′ → d ≡ d′
-  units-apart d d′ h h′ e = apart y v g d d′ (omega arith) (omega arith) e
+-- the units of a group lie on different targets
+pub units-apart : (y : Layout) → Valid y → (g d d′ : ℕ) → d < contents y + y .k → d′ < contents y + y .k → targetAt y g d ≡ targetAt y g d′ → d ≡ d′
+units-apart y v g d d′ h h′ e = apart y v g d d′ (omega arith) (omega arith) e
 
+module _ (y : Layout) (v : Valid y) (R : Record) (g : ℕ) where
   module _ (j : ℕ) (le : j ≤ y .k) where
     -- homes are units of the group, and all different
     pub home-apart : Apart (contents y) (contents y + y .k) (home y R j g)
     unfolding home
-    home-apart = homes-apart (targetAt y g) (contents y) (y .k) (entry R) units-apart j le
+    home-apart = homes-apart (targetAt y g) (contents y) (y .k) (entry R) (units-apart y v g) j le
 
     pub home-lt : (c : ℕ) → c < contents y → home y R j g c < width y
     home-lt c h = let b = home-apart .below c h in omega arith
@@ -33,12 +33,12 @@ module _ (y : Layout) (v : Valid y) (R : Record) (g : ℕ) where
     -- so they lie on different targets
     pub home-targets : (c c′ : ℕ) → c < contents y → c′ < contents y → targetAt y g (home y R j g c) ≡ targetAt y g (home y R j g c′) → c ≡ c′
     home-targets c c′ h h′ e =
-        home-apart .differ c c′ h h′ (units-apart (home y R j g c) (home y R j g c′) (home-apart .below c h) (home-apart .below c′ h′) e)
+        home-apart .differ c c′ h h′ (units-apart y v g (home y R j g c) (home y R j g c′) (home-apart .below c h) (home-apart .below c′ h′) e)
 
     -- none of them listed so far
     pub home-alive : (c : ℕ) → c < contents y → listed (entry R) j (targetAt y g (home y R j g c)) ≡ false
     unfolding home
-    home-alive c h = homes-alive (targetAt y g) (contents y) (y .k) (entry R) units-apart j le c h
+    home-alive c h = homes-alive (targetAt y g) (contents y) (y .k) (entry R) (units-apart y v g) j le c h
 
   -- a present content keeps its home under the whole list
   pub home-stays : R .q ≤ R .k → (c : ℕ) → missing y R g c ≡ false → home y R (R .k) g c ≡ home y R (R .q) g c
@@ -55,7 +55,7 @@ module _ (y : Layout) (v : Valid y) (R : Record) (g : ℕ) where
       let q = r .mended in
       omega (
         arith,
-        on-listed (targetAt y g) (contents y) (y .k) (entry R) units-apart (home y R (R .q) g) (home-apart (R .q) (omega arith)) (R .k),
+        on-listed (targetAt y g) (contents y) (y .k) (entry R) (units-apart y v g) (home y R (R .q) g) (home-apart (R .q) (omega arith)) (R .k),
       )
 
 -- "entries from k on are never read": records with the same k, q and first k entries have the same homes and missing contents

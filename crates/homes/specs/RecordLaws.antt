@@ -1,8 +1,8 @@
 -- The record's test says what `Good` says; it reads no entry from k on.
-use mathlib.Core.Path.{_≡_, refl, sym, ap, ap₂, _∙_}
-use mathlib.Core.Bool.{Bool, true, false, not}
+use mathlib.Core.Path.{_≡_, ap, ap₂, _∙_}
+use mathlib.Core.Bool.{Bool, true, not}
 use mathlib.Core.List.{List}
-use Prim.Native.Nat.{ℕ, suc, _<_, _≤_}
+use Prim.Native.Nat.{ℕ, _<_}
 use native.Mathlib.Omega.{arith}
 use borrow.Author.Tests.{leb-true, ltb-true, le-leb, lt-ltb, not-true}
 use lib.Dec.{ltb, leb}
@@ -11,11 +11,7 @@ use Rattle.lists.specs.Search.{all, all-at, all-true, all-same}
 use Rattle.numbers.specs.declared.Layout.{Layout}
 use Rattle.homes.specs.declared.Record.{Record}
 use Rattle.homes.specs.Listed.{listed, listed-same}
-use Rattle.homes.specs.Records.{entry, recordGood, Good}
-
--- entry i is a target, and stands at no place before
-abbrev pub entryGood : Layout → Record → ℕ → Bool
-entryGood y R i = both (ltb (entry R i) (y .p)) (not (listed (entry R) i (entry R i)))
+use Rattle.homes.specs.Records.{entry, entryGood, recordGood, Good}
 
 pub record-good : (y : Layout) (R : Record) → recordGood y R ≡ true → Good y R
 unfolding recordGood

@@ -1,7 +1,7 @@
 -- "The record holds an ordered list of k failed targets (room for 3), and q: the first q have been repaired."
 use mathlib.Core.Path.{_≡_}
 use mathlib.Core.Bool.{Bool, false, not}
-use mathlib.Core.List.{List, [], _∷_}
+use mathlib.Core.List.{[], _∷_}
 use Prim.Native.Nat.{ℕ, _≤_, _<_}
 use lib.Dec.{leb, ltb}
 use Rattle.lists.specs.Pick.{both}
@@ -19,12 +19,13 @@ entry R i = at (R .failed) i
 abbrev pub failed : Record → ℕ → Bool
 failed R t = listed (entry R) (R .k) t
 
+-- entry i is a target, and stands at no place before
+abbrev pub entryGood : Layout → Record → ℕ → Bool
+entryGood y R i = both (ltb (entry R i) (y .p)) (not (listed (entry R) i (entry R i)))
+
 -- refusal number 3: "failure record bad: k > K, q > k, an entry among the first k that is ≥ P or occurs twice"; as the test that it is not bad
 unfoldable pub recordGood : Layout → Record → Bool
-recordGood y R =
-    both (leb (R .k) (y .k))
-    (both (leb (R .q) (R .k))
-    (all (λ i. both (ltb (entry R i) (y .p)) (not (listed (entry R) i (entry R i)))) (R .k)))
+recordGood y R = both (leb (R .k) (y .k)) (both (leb (R .q) (R .k)) (all (entryGood y R) (R .k)))
 
 unfoldable pub recordRefusal : Layout → Record → ℕ
 recordRefusal y R = refusalBy ((recordGood y R, 3) ∷ [])

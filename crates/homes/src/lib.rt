@@ -1,4 +1,16 @@
 // The record of failed targets, and where the contents of a group live under it.
+use numbers::Layout;
+use numbers::Shape;
+ghost use mathlib.Core.Path.{_≡_};
+ghost use Prim.Native.Nat.{ℕ, _+_, _<_, _≤_};
+ghost use Rattle.lists.specs.Pick.{pick};
+ghost use Rattle.lists.specs.Search.{all, lowest};
+ghost use Rattle.lists.specs.Tabulate.{at};
+ghost use Rattle.numbers.specs.Layouts.{Valid};
+ghost use Rattle.homes.specs.Listed.{listed};
+ghost use Rattle.homes.specs.Homes.{free, move};
+ghost use Rattle.homes.specs.Records.{entryGood, recordRefusal};
+ghost use Rattle.homes.specs.Standing.{Units, HomesAre, MissingAre, TargetsAre, Standing, InTile};
 
 // The targets that have failed, in order: the first k entries, of which the first q are repaired.
 // Entries from k on are never read. Any values may stand in it.
@@ -6,4 +18,219 @@ pub struct Record {
     pub failed: [u64; 3],
     pub k: u64,
     pub q: u64,
+}
+
+// Whether t is among the first j entries.
+pub fn is_listed(failed: [u64; 3], j: usize, t: u64) -> bool
+    requires { ⌜ j ≤ 3 ⌝ }
+    ensures { λ r. ⌜ r ≡ listed (at failed) j t ⌝ }
+{
+    let mut i: usize = 0;
+    while i < j {
+        if failed[i] == t {
+            return true;
+        }
+        i += 1;
+    }
+    false
+}
+
+// Whether each of the first k entries is a target and stands there once.
+fn entries_good(y: Layout, r: Record) -> bool
+    requires { ⌜ r .k ≤ 3 ⌝ }
+    ensures { λ b. ⌜ b ≡ all (entryGood y r) (r .k) ⌝ }
+{
+    let failed = r.failed;
+    let k = r.k as usize;
+    let mut i: usize = 0;
+    while i < k {
+        let t = failed[i];
+        if y.p <= t {
+            return false;
+        }
+        if is_listed(failed, i, t) {
+            return false;
+        }
+        i += 1;
+    }
+    true
+}
+
+// 3 where the record is bad, else 0. The counts are tested before any entry is read.
+pub fn record_refusal(y: Layout, r: Record) -> u64
+    requires { ⌜ Valid y ⌝ }
+    ensures { λ n. ⌜ n ≡ recordRefusal y r ⌝ }
+{
+    if y.k < r.k {
+        return 3;
+    }
+    if r.k < r.q {
+        return 3;
+    }
+    if entries_good(y, r) { 0 } else { 3 }
+}
+
+// The target of each unit of a group, by the permutation of the group's tile.
+pub fn targets_of(y: Layout, s: Shape, to: &[u8; 64], g: u64) -> [u8; 22]
+    requires { ⌜ InTile y s (now to) g ⌝ }
+    ensures { λ r. ⌜ TargetsAre y g r ⌝ }
+{
+    let w = s.w as usize;
+    let mut targets = [0u8; 22];
+    let mut u: usize = 0;
+    while u < w {
+        let a = place::place_in(y, s, to, g, u as u64);
+        targets[u] = a.target as u8;
+        u += 1;
+    }
+    targets
+}
+
+// Whether unit u is the home of one of m contents.
+fn is_home(homes: [usize; 19], m: usize, u: usize) -> bool
+    requires { ⌜ m ≤ 19 ⌝ }
+    ensures { λ r. ⌜ r ≡ listed (at homes) m u ⌝ }
+{
+    let mut c: usize = 0;
+    while c < m {
+        if homes[c] == u {
+            return true;
+        }
+        c += 1;
+    }
+    false
+}
+
+fn wide(x: u8) -> u64
+    ensures { λ r. ⌜ r ≡ x ⌝ }
+{
+    x as u64
+}
+
+// Whether spare i is no content's home and lies on none of the first j entries.
+fn is_free(
+    targets: [u8; 22],
+    homes: [usize; 19],
+    m: usize,
+    failed: [u64; 3],
+    j: usize,
+    i: usize,
+) -> bool
+    requires { ⌜ (m ≤ 19) × (m + i < 22) × (j ≤ 3) ⌝ }
+    ensures { λ r. ⌜ r ≡ free (at targets) m (at failed) j (at homes) i ⌝ }
+{
+    let u = m + i;
+    if is_home(homes, m, u) {
+        return false;
+    }
+    !is_listed(failed, j, wide(targets[u]))
+}
+
+// The lowest free one of `spares` spares; `spares` where there is none.
+fn free_spare(
+    targets: [u8; 22],
+    homes: [usize; 19],
+    m: usize,
+    spares: usize,
+    failed: [u64; 3],
+    j: usize,
+) -> usize
+    requires { ⌜ (m ≤ 19) × (m + spares ≤ 22) × (j ≤ 3) ⌝ }
+    ensures { λ r. ⌜ (r ≡ lowest (free (at targets) m (at failed) j (at homes)) spares) × (r ≤ spares) ⌝ }
+{
+    let mut i: usize = 0;
+    while i < spares {
+        if is_free(targets, homes, m, failed, j, i) {
+            return i;
+        }
+        i += 1;
+    }
+    spares
+}
+
+fn chosen(first: bool, a: usize, b: usize) -> usize
+    ensures { λ r. ⌜ r ≡ pick first a b ⌝ }
+{
+    if first { a } else { b }
+}
+
+// The homes once entry j is looked at too: the content whose home is there has moved.
+fn moved(
+    targets: [u8; 22],
+    homes: [usize; 19],
+    m: usize,
+    spares: usize,
+    failed: [u64; 3],
+    j: usize,
+) -> [usize; 19]
+    requires { ⌜ Units targets homes m spares × (j < 3) ⌝ }
+    ensures { λ r. ⌜ ((c : ℕ) → c < m → at r c ≡ move (at targets) m spares (at failed) j (at homes) c) ⌝ }
+{
+    let spare = m + free_spare(targets, homes, m, spares, failed, j + 1);
+    let gone = failed[j];
+    let mut after = [0usize; 19];
+    let mut c: usize = 0;
+    while c < m {
+        let home = homes[c];
+        after[c] = chosen(wide(targets[home]) == gone, spare, home);
+        c += 1;
+    }
+    after
+}
+
+// Content c at unit c.
+fn own_places() -> [usize; 19]
+    ensures { λ r. ⌜ ((c : ℕ) → c < 19 → at r c ≡ c) ⌝ }
+{
+    let mut homes = [0usize; 19];
+    let mut c: usize = 0;
+    while c < 19 {
+        homes[c] = c;
+        c += 1;
+    }
+    homes
+}
+
+// The home of each of a group's m contents under the first j entries: a unit of the group, worked
+// out once a group.
+pub fn homes_of(
+    targets: [u8; 22],
+    m: usize,
+    spares: usize,
+    failed: [u64; 3],
+    j: usize,
+) -> [usize; 19]
+    requires { ⌜ Standing targets m spares j ⌝ }
+    ensures { λ r. ⌜ HomesAre targets m spares failed j r ⌝ }
+{
+    let mut homes = own_places();
+    let mut i: usize = 0;
+    while i < j {
+        let next = moved(targets, homes, m, spares, failed, i);
+        homes = next;
+        i += 1;
+    }
+    homes
+}
+
+// Which of m contents with these homes lie on one of the first k entries.
+pub fn missing_of(
+    targets: [u8; 22],
+    homes: [usize; 19],
+    m: usize,
+    spares: usize,
+    failed: [u64; 3],
+    k: usize,
+) -> [bool; 19]
+    requires { ⌜ Units targets homes m spares × (k ≤ 3) ⌝ }
+    ensures { λ r. ⌜ MissingAre targets homes m failed k r ⌝ }
+{
+    let mut missing = [false; 19];
+    let mut c: usize = 0;
+    while c < m {
+        let home = homes[c];
+        missing[c] = is_listed(failed, k, wide(targets[home]));
+        c += 1;
+    }
+    missing
 }

@@ -7,7 +7,7 @@ use native.Mathlib.Nat.{lt-irrefl, not-suc-le-zero, le-of-suc-le-suc, eq-or-lt-o
 use native.Mathlib.Omega.{arith}
 use lib.Dec.{eqb}
 use borrow.Author.Tests.{eqb-true}
-use Rattle.lists.specs.Pick.{pick, pick-true, pick-false, both, both-true, both-hold, either-way, clash}
+use Rattle.lists.specs.Pick.{pick, pick-true, pick-false, both, both-true, both-hold, either-way, clash, below-or-not}
 use Rattle.lists.specs.Count.{count, count-all}
 
 -- some number below n passes
@@ -135,6 +135,14 @@ pub lowest-passes : (f : ℕ → Bool) (n : ℕ) → lowest f n < n → f (lowes
 lowest-passes f n h =
     ⊎-elim (λ (t : any f n ≡ true). lowest-is f n t .1)
     (λ (t : any f n ≡ false). absurd (lt-irrefl n (subst (λ (k : ℕ). k < n) (lowest-none f n t) h))) (either-way (any f n))
+
+-- the number that passes while none below it does
+pub lowest-at : (f : ℕ → Bool) (n i : ℕ) → i < n → f i ≡ true → ((k : ℕ) → k < i → f k ≡ false) → lowest f n ≡ i
+lowest-at f n i h t none =
+    let r = lowest-is f n (any-true f n i h t) in
+    below-or-not (lowest f n) i (λ (l : lowest f n < i). clash (f (lowest f n)) (r .1) (none (lowest f n) l))
+    (λ (l : i ≤ lowest f n).
+    ⊎-elim (λ (e : i ≡ lowest f n). sym e) (λ (g : i < lowest f n). clash (f i) t (lowest-first f n i g h)) (eq-or-lt-of-le l))
 
 -- ---- tests that agree below n
 

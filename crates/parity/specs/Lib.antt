@@ -3,7 +3,7 @@ pub mod Content
 pub mod Restores
 pub mod Lowest
 pub mod Rows
-pub mod Slots
+pub mod Local
 pub mod Matrix
 pub mod Steps
 pub mod Made

@@ -1,32 +1,32 @@
 -- Calls see present contents alone: on two images that agree there, every call answers the same, and they agree there afterwards.
-use mathlib.Core.Path.{_≡_, refl, sym, ap, ap₂, _∙_, subst}
+use mathlib.Core.Path.{_≡_, sym, ap, _∙_, subst}
 use mathlib.Core.Logic.{⊎-elim}
-use mathlib.Core.Bool.{Bool, true, false}
+use mathlib.Core.Bool.{true, false}
 use mathlib.Core.List.{List, []}
-use Prim.Native.Nat.{ℕ, _+_, _-_, _≤_, _<_}
+use Prim.Native.Nat.{ℕ, _+_, _-_, _<_}
 use native.Mathlib.Omega.{arith}
-use lib.ListN.{length, take, drop}
+use lib.ListN.{length}
 use Rattle.lists.specs.Pick.{pick, pick-true, pick-false, either-way, equal-or-not}
-use Rattle.lists.specs.Tabulate.{at, tabulate, tabulate-ext, zeros}
-use Rattle.lists.specs.Refusal.{grant, grant-yes, grant-no, grant-either}
+use Rattle.lists.specs.Tabulate.{at, tabulate-ext, zeros}
+use Rattle.lists.specs.Refusal.{grant-yes, grant-no, grant-either}
 use Rattle.numbers.specs.declared.Layout.{Layout}
-use Rattle.numbers.specs.Layouts.{Valid, allGroups, contents, capacity, imageLength}
+use Rattle.numbers.specs.Layouts.{Valid, allGroups, contents}
 use Rattle.place.specs.Bytes.{spot, groupOf, unitIn, byteIn, offsetOf}
 use Rattle.place.specs.ByteLaws.{group-lt, unit-lt, byte-lt}
 use Rattle.parity.specs.Content.{content-cong}
-use Rattle.parity.specs.Slots.{rebuilt-same}
+use Rattle.parity.specs.Local.{rebuilt-cong}
 use Rattle.homes.specs.declared.Record.{Record}
 use Rattle.homes.specs.Records.{Good}
-use Rattle.homes.specs.Missing.{home, missing}
+use Rattle.homes.specs.Missing.{missing}
 use Rattle.pool.specs.Contents.{homeSpot, stored, contentByte, fileByte}
 use Rattle.pool.specs.Refusals.{rangeRefusal, failRefusal, repairRefusal, lookRefusal}
 use Rattle.pool.specs.Reading.{readOut}
-use Rattle.pool.specs.Writing.{named, laid, writesPresent, writeImage}
+use Rattle.pool.specs.Writing.{named, laid, writeImage}
 use Rattle.pool.specs.Failing.{grown, failRecord}
 use Rattle.pool.specs.Repairing.{mended, repairImage, repairRecord}
 use Rattle.pool.specs.Looking.{lookScratch, lookShown}
 use Rattle.pool.specs.Scribbling.{scribbled}
-use Rattle.pool.specs.Asked.{Sound, range-asked, FailAsked, fail-asked, repair-asked, LookAsked, look-asked}
+use Rattle.pool.specs.Asked.{Sound, range-asked, fail-asked, repair-asked, look-asked}
 use Rattle.pool.specs.StoringLaws.{storing-same}
 use Rattle.pool.specs.Holds.{solvable, home-spot-lt}
 use Rattle.pool.specs.WriteHolds.{write-refused, write-accepted, write-length}
@@ -46,7 +46,7 @@ pub content-local : (y : Layout) (R : Record) (img img′ : List ℕ) → Valid 
     → (c : ℕ) → c < contents y → contentByte y R img g o c ≡ contentByte y R img′ g o c
 unfolding contentByte
 content-local y R img img′ v r g o same c hc =
-    rebuilt-same (y .n) (y .k) (missing y R g) (solvable y R v r g) (stored y R img g o) (stored y R img′ g o) same c hc
+    rebuilt-cong (y .n) (y .k) (missing y R g) (solvable y R v r g) (stored y R img g o) (stored y R img′ g o) same c hc
 
 module _ (y : Layout) (R : Record) (img img′ : List ℕ) (a : Agree y R img img′) where
   -- a refusal that hangs on the image's length is the same for both

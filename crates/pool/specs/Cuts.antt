@@ -1,6 +1,6 @@
 -- Which groups a write touches, and where: in a group the unit offsets fall into at most three runs, cut at the range's first and last byte,
 -- and on a run a write names the same units.
-use mathlib.Core.Path.{_≡_, refl, sym, ap, ap₂, _∙_, subst}
+use mathlib.Core.Path.{_≡_, sym, ap, ap₂, _∙_, subst}
 use mathlib.Core.Logic.{⊎-elim}
 use mathlib.Core.Bool.{Bool, true, false, not}
 use Prim.Native.Nat.{ℕ, _+_, _*_, _-_, _/_, _%_, _≤_, _<_}
@@ -8,7 +8,7 @@ use native.Mathlib.Nat.{div-add-mod, mul-comm, mul-le-mul-left, mod-lt}
 use native.Mathlib.Omega.{arith}
 use borrow.Author.Tests.{lt-ltb, ltb-true, ltb-false, le-leb, lt-leb}
 use lib.Dec.{ltb, leb}
-use Rattle.lists.specs.Pick.{pick, both, pick-true, pick-false, either-way}
+use Rattle.lists.specs.Pick.{pick, both, pick-true, pick-false, either-way, same-test}
 use Rattle.lists.specs.Part.{within, within-of}
 use Rattle.lists.specs.Search.{any, lowest, any-same, lowest-is}
 use Rattle.lists.specs.Digits.{digits-below}
@@ -36,12 +36,6 @@ module _ (y : Layout) (offset size : ℕ) where
       let r = lowest-is (λ i. named y offset size g o i) (y .n) (sym (pick-false (ltb c (y .n)) (named y offset size g o c) (any (λ i. named y offset size g o i) (y .n)) t) ∙ e) in
       named-span g o (lowest (λ i. named y offset size g o i) (y .n)) ho (r .0) (r .1))
       (either-way (ltb c (y .n)))
-
--- tests are equal where each gives the other
-same-test : (s t : Bool) → (s ≡ true → t ≡ true) → (t ≡ true → s ≡ true) → s ≡ t
-same-test true t f g = sym (f refl)
-same-test false true f g = g refl
-same-test false false f g = refl
 
 -- offsets on the same side of the cut `lo % u` are on the same side of lo in each unit
 half-side : (u lo c o o′ : ℕ) → o < u → o′ < u → (o < lo % u → o′ < lo % u) → u * c + o < lo → u * c + o′ < lo

@@ -4,14 +4,14 @@ use mathlib.Core.Path.{_≡_, refl, sym, ap, _∙_, subst}
 use mathlib.Core.Logic.{⊎-elim}
 use mathlib.Core.Bool.{Bool, true, false, not}
 use mathlib.Core.List.{List}
-use Prim.Native.Nat.{ℕ, _+_, _≤_, _<_}
+use Prim.Native.Nat.{ℕ, _≤_, _<_}
 use native.Mathlib.Nat.{zero-add}
 use native.Mathlib.Omega.{arith}
-use borrow.Author.Tests.{eqb-true, eq-eqb, leb-false, lt-leb, le-leb}
+use borrow.Author.Tests.{eqb-true, eq-eqb, le-leb}
 use lib.Dec.{eqb, leb}
 use lib.ListN.{length}
-use Rattle.lists.specs.Pick.{pick, both, pick-true, pick-false, either-way, clash, below-or-not}
-use Rattle.lists.specs.Search.{any, lowest, any-true, any-none, lowest-is}
+use Rattle.lists.specs.Pick.{pick, both, both-off, pick-true, pick-false, either-way, clash, below-or-not}
+use Rattle.lists.specs.Search.{any, lowest, any-true, lowest-is}
 use Rattle.lists.specs.Tabulate.{at}
 use Rattle.numbers.specs.declared.Layout.{Layout}
 use Rattle.numbers.specs.Layouts.{Valid, allGroups, contents, imageLength}
@@ -47,7 +47,7 @@ pub record AgreeElsewhere (y : Layout) (R : Record) (img img′ : List ℕ) : Ty
 
 module _ (y : Layout) (R : Record) (v : Valid y) (r : Good y R) where
   -- a present content's home is none of those bytes
-  home-seen : (g o c : ℕ) → g < allGroups y → o < y .u → c < contents y → missing y R g c ≡ false → unseen y R (homeSpot y R g o c) ≡ false
+  pub home-seen : (g o c : ℕ) → g < allGroups y → o < y .u → c < contents y → missing y R g c ≡ false → unseen y R (homeSpot y R g o c) ≡ false
   unfolding unseen unusedSpare isHome missing
   home-seen g o c hg ho hc m =
       let f = r .few in
@@ -59,12 +59,8 @@ module _ (y : Layout) (R : Record) (v : Valid y) (r : Good y R) where
         unit-there′ y v g (home y R (R .q) g c) o hg hu ho,
         m,
         any-true (λ i. eqb (home y R (R .q) g i) (home y R (R .q) g c)) (contents y) c hc (eq-eqb (home y R (R .q) g c) (home y R (R .q) g c) refl),
-        by (leb (contents y) (home y R (R .q) g c)),
+        both-off (leb (contents y) (home y R (R .q) g c)),
       )
-    where
-      by : (t : Bool) → both t false ≡ false
-      by true = refl
-      by false = refl
 
   -- a content whose own place is on no failed target has its home there
   home-own : (g u : ℕ) → failed R (targetAt y g u) ≡ false → home y R (R .q) g u ≡ u

@@ -1,14 +1,15 @@
 -- Two images that agree elsewhere, but on failed targets and unused spares, agree elsewhere after every call, under the record that it returns.
-use mathlib.Core.Path.{_≡_, refl, sym, ap, ap₂, _∙_, subst}
+use mathlib.Core.Path.{_≡_, sym, ap, _∙_, subst}
 use mathlib.Core.Logic.{⊎-elim}
 use mathlib.Core.Bool.{Bool, true, false, not}
 use mathlib.Core.List.{List}
 use Prim.Native.Nat.{ℕ, suc, _≤_, _<_}
 use native.Mathlib.Nat.{le-refl}
 use native.Mathlib.Omega.{arith}
+use borrow.Author.Tests.{not-true}
 use lib.Dec.{eqb, leb}
 use lib.ListN.{length}
-use Rattle.lists.specs.Pick.{pick, both, pick-true, pick-false, either-way, clash}
+use Rattle.lists.specs.Pick.{pick, both, pick-true, pick-false, either-way, both-true, clash, equal-or-not}
 use Rattle.lists.specs.Search.{any, any-same}
 use Rattle.lists.specs.Tabulate.{at}
 use Rattle.lists.specs.Refusal.{grant-either}
@@ -18,17 +19,18 @@ use Rattle.place.specs.Bytes.{targetHere, unitHere}
 use Rattle.homes.specs.declared.Record.{Record}
 use Rattle.homes.specs.Listed.{unlisted-sub, listed-same}
 use Rattle.homes.specs.Records.{entry, failed}
-use Rattle.homes.specs.Missing.{home}
-use Rattle.pool.specs.Refusals.{failRefusal, repairRefusal}
+use Rattle.homes.specs.Missing.{home, missing}
+use Rattle.pool.specs.Refusals.{rangeRefusal, failRefusal, repairRefusal}
 use Rattle.pool.specs.Writing.{writeImage}
 use Rattle.pool.specs.Failing.{grown, failRecord}
 use Rattle.pool.specs.Repairing.{mended, repairImage, repairRecord}
-use Rattle.pool.specs.Asked.{Sound, FailAsked, fail-asked, repair-asked}
-use Rattle.pool.specs.WriteHolds.{write-length}
+use Rattle.pool.specs.Asked.{Sound, range-asked, fail-asked, repair-asked}
+use Rattle.pool.specs.WriteHolds.{write-refused, write-length}
 use Rattle.pool.specs.FailHolds.{entry-same, home-grown}
 use Rattle.pool.specs.RepairHolds.{repair-refused, repair-length}
+use Rattle.pool.specs.Changes.{write-changes}
 use Rattle.pool.specs.Blind.{also, write-blind, mended-agree}
-use Rattle.pool.specs.Elsewhere.{isHome, unusedSpare, unseen, AgreeElsewhere, agree-of, elsewhere-of}
+use Rattle.pool.specs.Elsewhere.{isHome, unusedSpare, unseen, home-seen, AgreeElsewhere, agree-of, elsewhere-of}
 
 -- what is seen under one more entry was seen before
 unseen-grown : (y : Layout) (R : Record) (t x : ℕ) → R .q ≤ R .k → unseen y (grown R t) x ≡ false → unseen y R x ≡ false
@@ -85,3 +87,17 @@ module _ (y : Layout) (R : Record) (img img′ : List ℕ) (a : AgreeElsewhere y
             len-is = repair-length y R img ∙ s .len-is;
             good = record { few = s .good .few; mended = le-refl (R .k); below = s .good .below; once = s .good .once };
           }
+
+-- a write changes none of those bytes
+pub write-spares-unseen : (y : Layout) (R : Record) (img : List ℕ) (offset : ℕ) (bytes : List ℕ) (x : ℕ) → x < length img → unseen y R x ≡ true
+    → at (writeImage y R img offset bytes) x ≡ at img x
+write-spares-unseen y R img offset bytes x h e =
+    equal-or-not (rangeRefusal y R (length img) offset (length bytes)) 0
+    (λ (z : rangeRefusal y R (length img) offset (length bytes) ≡ 0).
+    let s = range-asked y R (length img) offset (length bytes) z .0 in
+    ⊎-elim (λ q. q)
+    (λ w. clash (unseen y R x) e
+    (ap (unseen y R) (w .is-at)
+    ∙ home-seen y R (s .valid) (s .good) (w .g) (w .o) (w .c) (w .g-lt) (w .o-lt) (w .c-lt) (not-true (missing y R (w .g) (w .c)) (both-true (not (missing y R (w .g) (w .c))) _ (w .is-on) .0))))
+    (write-changes y R img offset bytes x h))
+    (λ (z : rangeRefusal y R (length img) offset (length bytes) ≡ 0 → ⊥). ap (λ (i : List ℕ). at i x) (write-refused y R img offset bytes z))

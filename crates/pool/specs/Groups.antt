@@ -8,22 +8,21 @@ use native.Mathlib.Nat.{lt-irrefl, le-refl, le-trans}
 use borrow.Author.Tests.{lt-ltb, le-ltb, ltb-true, ltb-false, eqb-true, eqb-false}
 use lib.Dec.{ltb, eqb}
 use lib.ListN.{length}
-use Rattle.lists.specs.Pick.{pick, both, pick-true, pick-false, either-way, clash}
-use Rattle.lists.specs.Tabulate.{at, tabulate, tabulated}
+use Rattle.lists.specs.Pick.{pick, both, pick-false, either-way, both-off, ltb-suc, clash}
+use Rattle.lists.specs.Tabulate.{at, tabulated}
 use Rattle.numbers.specs.declared.Layout.{Layout}
 use Rattle.numbers.specs.Layouts.{Valid, allGroups, contents, imageLength}
 use Rattle.place.specs.Bytes.{spot, unitHere, offsetHere}
 use Rattle.place.specs.ByteLaws.{group-there, unit-there′, spot-here, offset-here-lt}
 use Rattle.homes.specs.declared.Record.{Record}
 use Rattle.homes.specs.Records.{Good}
-use Rattle.homes.specs.Missing.{home, missing}
+use Rattle.homes.specs.Missing.{home}
 use Rattle.homes.specs.MissingLaws.{home-lt}
 use Rattle.pool.specs.Contents.{contentByte}
 use Rattle.pool.specs.Storing.{owner, cellAfter, storing}
 use Rattle.pool.specs.StoringLaws.{owner-home, home-owner, storing-length}
 use Rattle.pool.specs.Sweep.{storing-join, content-then, content-then-mended}
-use Rattle.pool.specs.Turn.{both-off, sofar, sweep-begin, sweep-skip, sweep-end}
-use Rattle.pool.specs.Progress.{ltb-suc}
+use Rattle.pool.specs.Turn.{sofar, sweep-begin, sweep-skip, sweep-end}
 
 -- what the code of group g₀ leaves of an image: at each home of the group what is on, and every other byte as it was
 pub record Group (y : Layout) (R : Record) (j : ℕ) (on : ℕ → ℕ → Bool) (val : ℕ → ℕ → ℕ) (g₀ : ℕ) (img img′ : List ℕ) : Type 0 where

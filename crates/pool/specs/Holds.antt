@@ -3,13 +3,13 @@
 use mathlib.Core.Path.{_≡_, refl, sym, ap, ap₂, _∙_, subst}
 use mathlib.Core.Bool.{Bool, true, false}
 use mathlib.Core.List.{List}
-use Prim.Native.Nat.{ℕ, zero, suc, _+_, _-_, _≤_, _<_}
+use Prim.Native.Nat.{ℕ, zero, suc, _+_, _-_, _<_}
 use native.Mathlib.Omega.{arith}
 use lib.Dec.{ltb, lit<}
 use lib.ListN.{length}
 use Rattle.lists.specs.Pick.{pick}
-use Rattle.lists.specs.Tabulate.{at, tabulate, zeros, length-tabulate, getD-tabulate, tabulate-ext}
-use Rattle.lists.specs.Refusal.{grant, grant-yes}
+use Rattle.lists.specs.Tabulate.{at, zeros, length-tabulate, getD-tabulate, tabulate-ext}
+use Rattle.lists.specs.Refusal.{grant-yes}
 use Rattle.numbers.specs.declared.Layout.{Layout}
 use Rattle.numbers.specs.Layouts.{Valid, allGroups, contents, capacity, imageLength}
 use Rattle.place.specs.Bytes.{groupOf, unitIn, byteIn, offsetOf}
@@ -31,7 +31,7 @@ use Rattle.pool.specs.Contents.{homeSpot, stored, contentByte, fileByte}
 use Rattle.pool.specs.Refusals.{rangeRefusal}
 use Rattle.pool.specs.Reading.{readOut}
 use Rattle.pool.specs.Files.{part, encoded}
-use Rattle.pool.specs.Asked.{Sound, range-asked}
+use Rattle.pool.specs.Asked.{range-asked}
 
 pub record Holds (y : Layout) (R : Record) (img file : List ℕ) : Type 0 where
   pub image-length : length img ≡ imageLength y

@@ -3,32 +3,17 @@ use mathlib.Core.Path.{_≡_, refl, sym, ap, ap₂, _∙_}
 use mathlib.Core.Logic.{⊎-elim}
 use mathlib.Core.Bool.{Bool, true, false}
 use Prim.Native.Nat.{ℕ, suc, _+_, _-_, _≤_, _<_, zero-le}
-use native.Mathlib.Nat.{eq-or-lt-of-le, zero-add, le-refl}
+use native.Mathlib.Nat.{zero-add, le-refl}
 use native.Mathlib.Omega.{arith}
-use borrow.Author.Tests.{eqb-true, eqb-false, ltb-true, ltb-false, lt-ltb, le-ltb, le-leb}
+use borrow.Author.Tests.{ltb-true, ltb-false, lt-ltb, le-ltb, le-leb}
 use lib.Dec.{ltb, leb, eqb}
-use Rattle.lists.specs.Pick.{pick, both, pick-true, pick-false, either-way}
+use Rattle.lists.specs.Pick.{pick, both, pick-true, pick-false, either-way, both-off, ltb-suc}
 use Rattle.lists.specs.Part.{within}
 use Rattle.pool.specs.Sweep.{oneRun, within-plus}
-use Rattle.pool.specs.Turn.{both-off}
 
 -- ---- group after group, and in a group content after content, whole units: how far a repair has come
 unfoldable pub upTo : ℕ → ℕ → ℕ → ℕ → ℕ → Bool
 upTo g₀ c₀ g o c = pick (ltb g g₀) true (both (eqb g g₀) (ltb c c₀))
-
-pub ltb-suc : (a b : ℕ) → ltb a (suc b) ≡ pick (eqb a b) true (ltb a b)
-ltb-suc a b =
-    ⊎-elim
-    (λ (t : eqb a b ≡ true). let e : a ≡ b = eqb-true a b t in lt-ltb a (suc b) (omega arith) ∙ sym (pick-true (eqb a b) true (ltb a b) t))
-    (λ (t : eqb a b ≡ false).
-    let ne = eqb-false a b t in
-    ⊎-elim
-    (λ (l : ltb a b ≡ true). let h : a < b = ltb-true a b l in lt-ltb a (suc b) (omega arith) ∙ sym (pick-false (eqb a b) true (ltb a b) t ∙ l))
-    (λ (l : ltb a b ≡ false).
-    let h : b ≤ a = ltb-false a b l in
-    le-ltb a (suc b) (⊎-elim (λ (q : b ≡ a). absurd (ne (sym q))) (λ (q : b < a). q) (eq-or-lt-of-le h)) ∙ sym (pick-false (eqb a b) true (ltb a b) t ∙ l))
-    (either-way (ltb a b)))
-    (either-way (eqb a b))
 
 pub upTo-none : (g o c : ℕ) → upTo 0 0 g o c ≡ false
 unfolding upTo

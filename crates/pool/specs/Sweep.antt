@@ -12,7 +12,7 @@ use lib.Dec.{ltb, eqb}
 use lib.ListN.{length}
 use Rattle.lists.specs.Pick.{pick, both, pick-true, pick-false, either-way, both-true, clash}
 use Rattle.lists.specs.Part.{within, within-of, within-in}
-use Rattle.lists.specs.Tabulate.{at, tabulate, length-tabulate, getD-tabulate, tabulated}
+use Rattle.lists.specs.Tabulate.{at, length-tabulate, getD-tabulate, tabulated}
 use Rattle.numbers.specs.declared.Layout.{Layout}
 use Rattle.numbers.specs.Layouts.{Valid, allGroups, contents, imageLength}
 use Rattle.place.specs.Bytes.{spotOf, spot, unitHere, offsetHere}

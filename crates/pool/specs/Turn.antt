@@ -1,13 +1,13 @@
 -- A loop that stores run after run: the image is `storing` of what is on and done. Begin, a turn, nothing to do, end.
 use mathlib.Core.Path.{_≡_, refl, sym, ap, _∙_}
 use mathlib.Core.Bool.{Bool, true, false}
-use mathlib.Core.List.{List, _++_}
+use mathlib.Core.List.{List}
 use Prim.Native.Nat.{ℕ, _+_, _-_, _≤_, _<_}
 use native.Mathlib.Omega.{arith}
 use borrow.Author.Tests.{eqb-true}
 use lib.Dec.{eqb}
-use lib.ListN.{length, take, drop}
-use Rattle.lists.specs.Pick.{pick, both, both-true, clash}
+use lib.ListN.{length}
+use Rattle.lists.specs.Pick.{pick, both, both-true, both-off, clash}
 use Rattle.lists.specs.Part.{within, within-of, replaced, replaced-length, replaced-at}
 use Rattle.lists.specs.Tabulate.{at}
 use Rattle.numbers.specs.declared.Layout.{Layout}
@@ -20,10 +20,6 @@ use Rattle.homes.specs.MissingLaws.{home-lt}
 use Rattle.pool.specs.Storing.{storing}
 use Rattle.pool.specs.StoringLaws.{storing-length, storing-none}
 use Rattle.pool.specs.Sweep.{oneRun, spot-add, storing-join, storing-run}
-
-pub both-off : (t : Bool) → both t false ≡ false
-both-off true = refl
-both-off false = refl
 
 -- both t d′ is what both t d and a run of things that are on make
 joined : (t d d′ h : Bool) → (t ≡ true → d′ ≡ pick h true d) → (h ≡ true → t ≡ true) → both t d′ ≡ pick h true (both t d)

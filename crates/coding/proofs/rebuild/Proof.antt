@@ -1,4 +1,5 @@
 -- `coding::rebuild`. The loop keeps: the first q missing units are filled, for the set of missing units for which all was worked out. A turn is `mend-turn`.
+use Rattle.parity.specs.Local.{slot-there}
 use mathlib.Core.Path.{_≡_, refl, ap, _∙_}
 use mathlib.Core.List.{[]}
 use mathlib.Core.Bool.{Bool}
@@ -7,12 +8,10 @@ use native.Mathlib.Nat.{le-trans}
 use native.Mathlib.Omega.{arith}
 use lib.ListN.{length, getD}
 use Rattle.lists.specs.Count.{count}
-use Rattle.field.specs.Byte.{inv}
 use Rattle.parity.specs.Rows.{slot}
 use Rattle.parity.specs.Matrix.{flag}
 use Rattle.parity.specs.Made.{gone-most}
 use Rattle.coding.specs.Units.{unit-end}
-use Rattle.parity.specs.Slots.{slot-there}
 use Rattle.coding.specs.Mending.{Mended, Ready, ready-rank, ready-unit, ready-run, mend-none, mend-turn, mend-all, slots-apart, unit-fits}
 use Rattle.coding.proofs.rebuild.Statement.{statement}
 use Rattle.coding.proofs.rebuild.Tie as tie

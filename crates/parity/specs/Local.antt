@@ -1,7 +1,7 @@
--- The units that the slots read are there; so what is rebuilt depends on the units that are there alone.
+-- What is rebuilt reads units that are there alone.
 use mathlib.Core.Path.{_≡_, sym, ap, _∙_}
-use mathlib.Core.Logic.{⊎-elim}
 use mathlib.Core.Bool.{Bool, true, false, not}
+use mathlib.Core.Logic.{⊎-elim}
 use Prim.Native.Nat.{ℕ, _+_, _<_}
 use native.Mathlib.Nat.{le-trans}
 use native.Mathlib.Omega.{arith}
@@ -34,14 +34,20 @@ module _ (n k : ℕ) (miss : ℕ → Bool) (s : Solvable n k miss) where
       (ap miss e ∙ t, omega (arith, e, h)))
       (either-way (miss j))
 
-  -- two groups that agree on the units that are there are rebuilt alike
-  pub rebuilt-same : (a b : ℕ → ℕ) → ((u : ℕ) → u < n + k → miss u ≡ false → a u ≡ b u) → (u : ℕ) → u < n + k → rebuilt n k miss a u ≡ rebuilt n k miss b u
+  pub rebuilt-there : (old : ℕ → ℕ) (u : ℕ) → miss u ≡ false → rebuilt n k miss old u ≡ old u
   unfolding rebuilt
-  rebuilt-same a b same u h =
+  rebuilt-there old u t = pick-false (miss u) _ (old u) t
+
+  -- groups that agree on the units that are there are rebuilt alike
+  pub rebuilt-cong : (a b : ℕ → ℕ) → ((u : ℕ) → u < n + k → miss u ≡ false → a u ≡ b u) → (u : ℕ) → u < n + k → rebuilt n k miss a u ≡ rebuilt n k miss b u
+  rebuilt-cong a b e u h =
       ⊎-elim
       (λ (t : miss u ≡ true).
       row-gives n k miss (lost-most n k miss s) a u t
-      ∙ sum-cong n _ _ (λ j l. let p = slot-there j l in ap (mul (rowOf n k miss u j)) (same (slot n k miss j) (p .1) (p .0)))
+      ∙ sum-cong n _ _ (λ j l. ap (mul (rowOf n k miss u j)) (e (slot n k miss j) (slot-there j l .1) (slot-there j l .0)))
       ∙ sym (row-gives n k miss (lost-most n k miss s) b u t))
-      (λ (t : miss u ≡ false). pick-false (miss u) _ (a u) t ∙ same u h t ∙ sym (pick-false (miss u) _ (b u) t))
-      (either-way (miss u))
+      (λ (t : miss u ≡ false). rebuilt-there a u t ∙ e u h t ∙ sym (rebuilt-there b u t)) (either-way (miss u))
+
+  -- so rebuilding what was rebuilt changes nothing
+  pub rebuilt-twice : (old : ℕ → ℕ) (u : ℕ) → u < n + k → rebuilt n k miss (rebuilt n k miss old) u ≡ rebuilt n k miss old u
+  rebuilt-twice old = rebuilt-cong (rebuilt n k miss old) old (λ u h t. rebuilt-there old u t)
