@@ -108,7 +108,14 @@ fn wide(x: u8) -> u64
 }
 
 // Whether spare i is no content's home and lies on none of the first j entries.
-fn is_free(targets: [u8; 22], homes: [usize; 19], m: usize, failed: [u64; 3], j: usize, i: usize) -> bool
+fn is_free(
+    targets: [u8; 22],
+    homes: [usize; 19],
+    m: usize,
+    failed: [u64; 3],
+    j: usize,
+    i: usize,
+) -> bool
     requires { ⌜ (m ≤ 19) × (m + i < 22) × (j ≤ 3) ⌝ }
     ensures { λ r. ⌜ r ≡ free (at targets) m (at failed) j (at homes) i ⌝ }
 {
@@ -120,7 +127,14 @@ fn is_free(targets: [u8; 22], homes: [usize; 19], m: usize, failed: [u64; 3], j:
 }
 
 // The lowest free one of `spares` spares; `spares` where there is none.
-fn free_spare(targets: [u8; 22], homes: [usize; 19], m: usize, spares: usize, failed: [u64; 3], j: usize) -> usize
+fn free_spare(
+    targets: [u8; 22],
+    homes: [usize; 19],
+    m: usize,
+    spares: usize,
+    failed: [u64; 3],
+    j: usize,
+) -> usize
     requires { ⌜ (m ≤ 19) × (m + spares ≤ 22) × (j ≤ 3) ⌝ }
     ensures { λ r. ⌜ (r ≡ lowest (free (at targets) m (at failed) j (at homes)) spares) × (r ≤ spares) ⌝ }
 {
@@ -141,7 +155,14 @@ fn chosen(first: bool, a: usize, b: usize) -> usize
 }
 
 // The homes once entry j is looked at too: the content whose home is there has moved.
-fn moved(targets: [u8; 22], homes: [usize; 19], m: usize, spares: usize, failed: [u64; 3], j: usize) -> [usize; 19]
+fn moved(
+    targets: [u8; 22],
+    homes: [usize; 19],
+    m: usize,
+    spares: usize,
+    failed: [u64; 3],
+    j: usize,
+) -> [usize; 19]
     requires { ⌜ Units targets homes m spares × (j < 3) ⌝ }
     ensures { λ r. ⌜ ((c : ℕ) → c < m → at r c ≡ move (at targets) m spares (at failed) j (at homes) c) ⌝ }
 {
@@ -172,7 +193,13 @@ fn own_places() -> [usize; 19]
 
 // The home of each of a group's m contents under the first j entries: a unit of the group, worked
 // out once a group.
-pub fn homes_of(targets: [u8; 22], m: usize, spares: usize, failed: [u64; 3], j: usize) -> [usize; 19]
+pub fn homes_of(
+    targets: [u8; 22],
+    m: usize,
+    spares: usize,
+    failed: [u64; 3],
+    j: usize,
+) -> [usize; 19]
     requires { ⌜ Standing targets m spares j ⌝ }
     ensures { λ r. ⌜ HomesAre targets m spares failed j r ⌝ }
 {
@@ -187,7 +214,14 @@ pub fn homes_of(targets: [u8; 22], m: usize, spares: usize, failed: [u64; 3], j:
 }
 
 // Which of m contents with these homes lie on one of the first k entries.
-pub fn missing_of(targets: [u8; 22], homes: [usize; 19], m: usize, spares: usize, failed: [u64; 3], k: usize) -> [bool; 19]
+pub fn missing_of(
+    targets: [u8; 22],
+    homes: [usize; 19],
+    m: usize,
+    spares: usize,
+    failed: [u64; 3],
+    k: usize,
+) -> [bool; 19]
     requires { ⌜ Units targets homes m spares × (k ≤ 3) ⌝ }
     ensures { λ r. ⌜ MissingAre targets homes m failed k r ⌝ }
 {

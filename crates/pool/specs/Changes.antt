@@ -21,7 +21,7 @@ use Rattle.pool.specs.Refusals.{rangeRefusal, repairRefusal}
 use Rattle.pool.specs.Storing.{Stores}
 use Rattle.pool.specs.Writing.{writesPresent, writeImage}
 use Rattle.pool.specs.Repairing.{mends, repairImage}
-use Rattle.pool.specs.Asked.{Sound, range-asked, repair-asked}
+use Rattle.pool.specs.Asked.{range-asked, repair-asked}
 use Rattle.pool.specs.StoringLaws.{storing-changes}
 use Rattle.pool.specs.WriteHolds.{write-refused, write-accepted}
 use Rattle.pool.specs.RepairHolds.{repair-refused, repair-accepted}

@@ -1,17 +1,17 @@
 -- A failure keeps what the image holds, since what is present afterwards was present before; and the record stays good.
-use mathlib.Core.Path.{_≡_, refl, sym, ap, _∙_, subst}
+use mathlib.Core.Path.{_≡_, sym, ap, _∙_, subst}
 use mathlib.Core.Logic.{⊎-elim}
-use mathlib.Core.Bool.{Bool, true, false}
+use mathlib.Core.Bool.{true, false}
 use mathlib.Core.List.{List}
 use Prim.Native.Nat.{ℕ, suc, _≤_, _<_}
 use native.Mathlib.Nat.{le-refl, lt-irrefl, eq-or-lt-of-le, le-of-suc-le-suc}
 use native.Mathlib.Omega.{arith}
-use lib.ListN.{length, set, length-set}
+use lib.ListN.{length, length-set}
 use lib.Seq.{getD-set-same, getD-set-other}
 use Rattle.lists.specs.Tabulate.{at}
-use Rattle.lists.specs.Refusal.{grant, grant-yes, grant-either}
+use Rattle.lists.specs.Refusal.{grant-yes, grant-either}
 use Rattle.numbers.specs.declared.Layout.{Layout}
-use Rattle.numbers.specs.Layouts.{Valid, contents}
+use Rattle.numbers.specs.Layouts.{contents}
 use Rattle.place.specs.Bytes.{spot}
 use Rattle.homes.specs.declared.Record.{Record}
 use Rattle.homes.specs.Listed.{listed, listed-same, listed-at, unlisted-sub}
@@ -28,7 +28,7 @@ use Rattle.pool.specs.Holds.{Holds}
 
 module _ (y : Layout) (R : Record) (t : ℕ) where
   -- entries below k are as they were
-  entry-same : (i : ℕ) → i < R .k → entry (grown R t) i ≡ entry R i
+  pub entry-same : (i : ℕ) → i < R .k → entry (grown R t) i ≡ entry R i
   entry-same i b = getD-set-other (R .failed) (R .k) i t 0 (λ (e : i ≡ R .k). lt-irrefl (R .k) (subst (λ (x : ℕ). x < R .k) e b))
 
   pub home-grown : (j g c : ℕ) → j ≤ R .k → home y (grown R t) j g c ≡ home y R j g c

@@ -3,13 +3,13 @@
 use mathlib.Core.Path.{_≡_, refl, sym, ap, ap₂, _∙_, subst}
 use mathlib.Core.Bool.{Bool, true, false}
 use mathlib.Core.List.{List}
-use Prim.Native.Nat.{ℕ, zero, suc, _+_, _-_, _≤_, _<_}
+use Prim.Native.Nat.{ℕ, zero, suc, _+_, _-_, _<_}
 use native.Mathlib.Omega.{arith}
 use lib.Dec.{ltb, lit<}
 use lib.ListN.{length}
 use Rattle.lists.specs.Pick.{pick}
-use Rattle.lists.specs.Tabulate.{at, tabulate, zeros, length-tabulate, getD-tabulate, tabulate-ext}
-use Rattle.lists.specs.Refusal.{grant, grant-yes}
+use Rattle.lists.specs.Tabulate.{at, zeros, length-tabulate, getD-tabulate, tabulate-ext}
+use Rattle.lists.specs.Refusal.{grant-yes}
 use Rattle.numbers.specs.declared.Layout.{Layout}
 use Rattle.numbers.specs.Layouts.{Valid, allGroups, contents, capacity, imageLength}
 use Rattle.place.specs.Bytes.{groupOf, unitIn, byteIn, offsetOf}
@@ -22,6 +22,7 @@ use Rattle.systems.specs.Coef.{coef}
 use Rattle.parity.specs.Group.{parityOf, content, Solvable}
 use Rattle.parity.specs.Content.{content-data, content-cong}
 use Rattle.parity.specs.Restores.{restores}
+use Rattle.parity.specs.Lowest.{Rebuilds, rebuilds}
 use Rattle.homes.specs.declared.Record.{Record}
 use Rattle.homes.specs.Records.{Good}
 use Rattle.homes.specs.Missing.{home, missing}
@@ -30,7 +31,7 @@ use Rattle.pool.specs.Contents.{homeSpot, stored, contentByte, fileByte}
 use Rattle.pool.specs.Refusals.{rangeRefusal}
 use Rattle.pool.specs.Reading.{readOut}
 use Rattle.pool.specs.Files.{part, encoded}
-use Rattle.pool.specs.Asked.{Sound, range-asked}
+use Rattle.pool.specs.Asked.{range-asked}
 
 pub record Holds (y : Layout) (R : Record) (img file : List ℕ) : Type 0 where
   pub image-length : length img ≡ imageLength y
@@ -109,3 +110,10 @@ read-right y R img file k offset size z =
     let b = a .1 in
     grant-yes (rangeRefusal y R (length img) offset size) _ _ z
     ∙ tabulate-ext 0 size _ _ (λ i h. file-shown y R img file (a .0 .valid) (a .0 .good) k (offset + i) (omega arith))
+
+-- ---- on any image of bytes a content is what a rebuilding "from the N lowest present units" promises
+
+pub content-rebuilds : (y : Layout) (R : Record) (img : List ℕ) → Valid y → Good y R → (g o : ℕ) → ((c : ℕ) → c < contents y → stored y R img g o c < 256)
+    → Rebuilds (y .n) (y .k) (missing y R g) (stored y R img g o) (contentByte y R img g o)
+unfolding contentByte
+content-rebuilds y R img v r g o bytes = rebuilds (y .n) (y .k) (missing y R g) (solvable y R v r g) (stored y R img g o) bytes

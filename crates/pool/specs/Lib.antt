@@ -18,3 +18,11 @@ pub mod RepairHolds
 pub mod ScribbleHolds
 pub mod LookHolds
 pub mod Changes
+pub mod Blind
+pub mod Elsewhere
+pub mod ElsewhereKept
+pub mod Cuts
+pub mod Sweep
+pub mod Turn
+pub mod Progress
+pub mod Groups

@@ -1,26 +1,26 @@
 -- The two steps of a look show what encoding the file puts into the content, also where it is missing.
-use mathlib.Core.Path.{_≡_, refl, sym, ap, _∙_, subst}
+use mathlib.Core.Path.{_≡_, sym, ap, _∙_}
 use mathlib.Core.Logic.{⊎-elim}
-use mathlib.Core.Bool.{Bool, true, false}
+use mathlib.Core.Bool.{true, false}
 use mathlib.Core.List.{List, []}
-use Prim.Native.Nat.{ℕ, _+_, _-_, _≤_, _<_}
+use Prim.Native.Nat.{ℕ, _+_, _-_, _<_}
 use native.Mathlib.Nat.{add-assoc, zero-add}
 use native.Mathlib.Omega.{arith}
 use lib.ListN.{length, take, drop, length-drop}
 use lib.Seq.{getD-take, getD-drop, length-take-le}
 use Rattle.lists.specs.Pick.{pick, pick-true, pick-false, either-way}
 use Rattle.lists.specs.Tabulate.{at, tabulate, tabulated, zeros, length-tabulate, tabulate-ext}
-use Rattle.lists.specs.Refusal.{grant, grant-yes, grant-either}
+use Rattle.lists.specs.Refusal.{grant-yes, grant-either}
 use Rattle.numbers.specs.declared.Layout.{Layout}
-use Rattle.numbers.specs.Layouts.{Valid, allGroups, contents, imageLength}
+use Rattle.numbers.specs.Layouts.{allGroups, contents, imageLength}
 use Rattle.place.specs.Bytes.{spotOf}
 use Rattle.homes.specs.declared.Record.{Record}
-use Rattle.homes.specs.Missing.{home, missing}
+use Rattle.homes.specs.Missing.{missing}
 use Rattle.pool.specs.Contents.{homeSpot, stored, contentByte}
 use Rattle.pool.specs.Refusals.{lookRefusal}
 use Rattle.pool.specs.Looking.{lookScratch, lookShown}
 use Rattle.pool.specs.Files.{encoded}
-use Rattle.pool.specs.Asked.{Sound, LookAsked, look-asked}
+use Rattle.pool.specs.Asked.{Sound, look-asked}
 use Rattle.pool.specs.Holds.{Holds, home-spot-lt, content-holds}
 
 pub scratch-length : (y : Layout) (R : Record) (img : List ℕ) (room g c : ℕ) → length (lookScratch y R img room g c) ≡ room

@@ -1,15 +1,15 @@
 -- A repair keeps what the image holds: missing contents are stored at their new homes, present ones stay at theirs, and nothing is missing
 -- afterwards.
-use mathlib.Core.Path.{_≡_, refl, sym, ap, _∙_, subst}
+use mathlib.Core.Path.{_≡_, sym, ap, _∙_, subst}
 use mathlib.Core.Logic.{⊎-elim}
-use mathlib.Core.Bool.{Bool, true, false}
+use mathlib.Core.Bool.{true, false}
 use mathlib.Core.List.{List}
-use Prim.Native.Nat.{ℕ, _≤_, _<_}
+use Prim.Native.Nat.{ℕ, _<_}
 use native.Mathlib.Nat.{le-refl}
 use lib.ListN.{length}
 use Rattle.lists.specs.Pick.{pick, pick-true, pick-false, either-way, equal-or-not}
 use Rattle.lists.specs.Tabulate.{at}
-use Rattle.lists.specs.Refusal.{grant, grant-yes, grant-no, grant-either}
+use Rattle.lists.specs.Refusal.{grant-yes, grant-no, grant-either}
 use Rattle.numbers.specs.declared.Layout.{Layout}
 use Rattle.numbers.specs.Layouts.{Valid, allGroups, contents}
 use Rattle.place.specs.Bytes.{spot}
@@ -17,7 +17,7 @@ use Rattle.homes.specs.declared.Record.{Record}
 use Rattle.homes.specs.Records.{Good}
 use Rattle.homes.specs.Missing.{home, missing}
 use Rattle.homes.specs.MissingLaws.{home-alive, home-stays}
-use Rattle.pool.specs.Contents.{homeSpot, stored, contentByte}
+use Rattle.pool.specs.Contents.{stored, contentByte}
 use Rattle.pool.specs.Refusals.{repairRefusal}
 use Rattle.pool.specs.Storing.{storing}
 use Rattle.pool.specs.Repairing.{mends, repairImage, mended, repairRecord}

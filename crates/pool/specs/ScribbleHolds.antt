@@ -1,12 +1,12 @@
 -- Scribbling on failed targets keeps what the image holds, since no present content lies there; and every such scribbling is one of `scribbled`.
-use mathlib.Core.Path.{_≡_, refl, sym, ap, _∙_, subst}
+use mathlib.Core.Path.{_≡_, sym, ap, _∙_, subst}
 use mathlib.Core.Logic.{⊎-elim}
-use mathlib.Core.Bool.{Bool, true, false}
+use mathlib.Core.Bool.{true, false}
 use mathlib.Core.List.{List}
-use Prim.Native.Nat.{ℕ, _≤_, _<_}
+use Prim.Native.Nat.{ℕ, _<_}
 use native.Mathlib.Omega.{arith}
 use lib.ListN.{length}
-use Rattle.lists.specs.Pick.{pick, pick-true, pick-false, either-way}
+use Rattle.lists.specs.Pick.{pick-true, pick-false, either-way}
 use Rattle.lists.specs.Tabulate.{at, tabulated, length-tabulate, getD-tabulate}
 use Rattle.numbers.specs.declared.Layout.{Layout}
 use Rattle.numbers.specs.Layouts.{Valid, allGroups, contents, imageLength}

@@ -9,7 +9,7 @@ use lib.Dec.{ltb, eqb}
 use lib.ListN.{length}
 use Rattle.lists.specs.Pick.{pick, both, pick-false, either-way, both-true}
 use Rattle.lists.specs.Search.{any-true, lowest-is, lowest-passes}
-use Rattle.lists.specs.Tabulate.{at, tabulate, length-tabulate, getD-tabulate, tabulated}
+use Rattle.lists.specs.Tabulate.{at, length-tabulate, getD-tabulate, tabulated}
 use Rattle.numbers.specs.declared.Layout.{Layout}
 use Rattle.numbers.specs.Layouts.{Valid, allGroups, contents, imageLength}
 use Rattle.place.specs.Bytes.{spot, unitHere, offsetHere}

@@ -1,18 +1,18 @@
 -- After a write the image holds the file with the bytes laid on.
-use mathlib.Core.Path.{_≡_, refl, sym, ap, _∙_, subst}
+use mathlib.Core.Path.{_≡_, sym, ap, _∙_, subst}
 use mathlib.Core.Logic.{⊎-elim}
-use mathlib.Core.Bool.{Bool, true, false}
+use mathlib.Core.Bool.{true, false}
 use mathlib.Core.List.{List}
 use Prim.Native.Nat.{ℕ, _-_, _≤_, _<_}
 use native.Mathlib.Omega.{arith}
 use borrow.Author.Tests.{ltb-true}
 use lib.Dec.{ltb}
 use lib.ListN.{length}
-use Rattle.lists.specs.Pick.{pick, both, pick-true, pick-false, either-way, equal-or-not}
+use Rattle.lists.specs.Pick.{pick, pick-true, pick-false, either-way, equal-or-not}
 use Rattle.lists.specs.Part.{within, within-of}
 use Rattle.lists.specs.Search.{any, any-none}
-use Rattle.lists.specs.Tabulate.{at, tabulate, length-tabulate, getD-tabulate}
-use Rattle.lists.specs.Refusal.{grant, grant-yes, grant-no}
+use Rattle.lists.specs.Tabulate.{at, length-tabulate, getD-tabulate}
+use Rattle.lists.specs.Refusal.{grant-yes, grant-no}
 use Rattle.numbers.specs.declared.Layout.{Layout}
 use Rattle.numbers.specs.Layouts.{Valid, allGroups, contents}
 use Rattle.place.specs.Bytes.{offsetOf}
@@ -21,7 +21,7 @@ use Rattle.parity.specs.Group.{content}
 use Rattle.parity.specs.Content.{content-data, content-cong}
 use Rattle.homes.specs.declared.Record.{Record}
 use Rattle.homes.specs.Missing.{missing}
-use Rattle.pool.specs.Contents.{homeSpot, stored, contentByte}
+use Rattle.pool.specs.Contents.{homeSpot, stored}
 use Rattle.pool.specs.Refusals.{rangeRefusal}
 use Rattle.pool.specs.Storing.{storing}
 use Rattle.pool.specs.Writing.{named, touched, writes, laid, writesPresent, writeImage}

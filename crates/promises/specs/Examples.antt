@@ -1,9 +1,11 @@
 -- "Checked examples": the starred ones, "together, a single statement about the definitions", computed by the checker.
 use mathlib.Core.Path.{_≡_, refl}
+use mathlib.Core.Bool.{Bool, true, false}
 use mathlib.Core.List.{List, [], _∷_}
 use Prim.Native.Nat.{ℕ}
 use lib.ListN.{take}
-use Rattle.lists.specs.Tabulate.{tabulate}
+use Rattle.lists.specs.Search.{any, all, lowest}
+use Rattle.lists.specs.Tabulate.{tabulate, at as nth}
 use Rattle.lists.specs.Refusal.{_orElse_, refusalBy}
 use Rattle.numbers.specs.declared.Layout.{Layout}
 use Rattle.numbers.specs.Gcd.{gcd, gcdIn, lcm}
@@ -15,6 +17,13 @@ use Rattle.place.specs.declared.Place.{Place}
 use Rattle.place.specs.Units.{frameOf, targetOf, groupAt, unitAt}
 use Rattle.place.specs.Places.{placeOf, unitOf}
 use Rattle.place.specs.Bytes.{groupOf, unitIn, byteIn, spotOf, imageByte}
+use Rattle.homes.specs.declared.Record.{Record}
+use Rattle.homes.specs.Listed.{listed}
+use Rattle.homes.specs.Homes.{free, move, homes}
+use Rattle.homes.specs.Records.{recordGood}
+use Rattle.homes.specs.Missing.{home, missing}
+use Rattle.pool.specs.Refusals.{failRefusal}
+use Rattle.pool.specs.Failing.{failRecord}
 
 abbrev layout : ℕ → ℕ → ℕ → ℕ → ℕ → ℕ → Layout
 layout n k p u t cookie = record { n = n; k = k; p = p; u = u; t = t; cookie = cookie }
@@ -32,6 +41,24 @@ at r t = record { frame = r; target = t }
 abbrev three : Layout → ℕ → List Place
 three y g = placeOf y g 0 ∷ placeOf y g 1 ∷ placeOf y g 2 ∷ []
 
+-- an empty failure list, and that with target 3 failed
+abbrev none : Record
+none = record { failed = 0 ∷ 0 ∷ 0 ∷ []; k = 0; q = 0 }
+
+abbrev failed3 : Record
+failed3 = failRecord small none 48 3
+
+-- which contents of group g are missing then, and the place of content c under the whole list
+abbrev lost : ℕ → List Bool
+lost g = missing small failed3 g 0 ∷ missing small failed3 g 1 ∷ []
+
+abbrev newHome : ℕ → ℕ → Place
+newHome g c = placeOf small g (home small failed3 1 g c)
+
+-- "N=1 K=2, units on targets a b c d e": unit u on target u, so a to e are 0 to 4; the home of the data, and so its target, under a list of two
+abbrev dataOn : ℕ → ℕ → ℕ
+dataOn first second = homes (λ u. u) 3 2 (nth (first ∷ second ∷ [])) 2 0
+
 pub examples :
     (four (layout 4 2 20 1 1 0) ≡ 8 ∷ 40 ∷ 2 ∷ 5 ∷ [])
     × (rows (layout 1 0 1 1 1 0) ∷ groups (layout 1 0 1 1 1 0) ∷ [] ≡ 1 ∷ 1 ∷ [])
@@ -44,5 +71,9 @@ pub examples :
     × (three small 2 ≡ at 1 3 ∷ at 1 0 ∷ at 2 2 ∷ [])
     × (three small 3 ≡ at 2 1 ∷ at 2 3 ∷ at 2 0 ∷ [])
     × (groupOf small 9 ∷ unitIn small 9 ∷ byteIn small 9 ∷ imageByte small 9 ∷ [] ≡ 2 ∷ 0 ∷ 1 ∷ 41 ∷ [])
-unfolding tabulate _orElse_ refusalBy gcd gcdIn lcm block rows groups validb layoutRefusal startOf nextOf drawOf own exchange shuffleOf permutationOf indexOf inverseOf frameOf targetOf groupAt unitAt placeOf unitOf groupOf unitIn byteIn spotOf imageByte
-examples = (refl, refl, refl, refl, refl, refl, refl, refl, refl, refl, refl)
+    × (failRefusal small none 48 3 ∷ failed3 .k ∷ nth (failed3 .failed) 0 ∷ [] ≡ 0 ∷ 1 ∷ 3 ∷ [])
+    × (lost 0 ∷ lost 1 ∷ lost 2 ∷ lost 3 ∷ [] ≡ (false ∷ false ∷ []) ∷ (false ∷ false ∷ []) ∷ (true ∷ false ∷ []) ∷ (false ∷ true ∷ []) ∷ [])
+    × (newHome 2 0 ∷ newHome 3 1 ∷ [] ≡ at 2 2 ∷ at 2 0 ∷ [])
+    × (dataOn 0 3 ∷ dataOn 3 0 ∷ dataOn 4 0 ∷ [] ≡ 4 ∷ 4 ∷ 3 ∷ [])
+unfolding tabulate _orElse_ refusalBy gcd gcdIn lcm block rows groups validb layoutRefusal startOf nextOf drawOf own exchange shuffleOf permutationOf indexOf inverseOf frameOf targetOf groupAt unitAt placeOf unitOf groupOf unitIn byteIn spotOf imageByte any all lowest listed free move homes recordGood home missing failRefusal failRecord
+examples = (refl, refl, refl, refl, refl, refl, refl, refl, refl, refl, refl, refl, refl, refl, refl)

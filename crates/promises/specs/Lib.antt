@@ -1,5 +1,9 @@
 pub mod Placement
 pub mod Walks
+pub mod Runs
+pub mod RunLaws
+pub mod Demand3
+pub mod Independence
 pub mod Refusals
 pub mod Tight
 pub mod Examples

@@ -1,6 +1,7 @@
 -- "For each, show that any two outcomes its promise allows are the same." A promise is an equation with a function of the inputs; the name
 -- before each statement is the call's.
 use mathlib.Core.Path.{_≡_, sym, _∙_}
+use mathlib.Core.List.{List}
 use Prim.Native.Nat.{ℕ}
 use Rattle.numbers.specs.declared.Layout.{Layout}
 use Rattle.layout.specs.declared.Measured.{Measured}
@@ -15,6 +16,8 @@ use Rattle.layout.specs.Tiles.{permutedOf, invertedOf}
 use Rattle.layout.specs.Places.{placedOf, heldOf}
 use Rattle.layout.specs.Offsets.{mappedOf}
 use Rattle.layout.specs.Walk.{stepOf}
+use Rattle.homes.specs.declared.Record.{Record}
+use Rattle.pool.specs.Calls.{Reads, Writes, Fails, Repairs, Prepares, Shows}
 
 -- two that equal one are equal
 pub same : {A : Type 0} {a r r′ : A} → r ≡ a → r′ ≡ a → r ≡ r′
@@ -41,3 +44,28 @@ module _ (y : Layout) where
 
   pub step-tight : (w : Cursor) (r r′ : Step) → r ≡ stepOf y w → r′ ≡ stepOf y w → r ≡ r′
   step-tight w r r′ = same
+
+-- ---- the pool: each call's promise is one record of equations (`Calls` of the pool)
+
+module _ (y : Layout) (R : Record) (img : List ℕ) where
+  pub read-tight : (offset size n n′ : ℕ) (out out′ : List ℕ) → Reads y R img offset size n out → Reads y R img offset size n′ out′ → (n ≡ n′) × (out ≡ out′)
+  read-tight offset size n n′ out out′ p q = (same (p .answer) (q .answer), same (p .bytes) (q .bytes))
+
+  pub write-tight : (offset : ℕ) (bytes : List ℕ) (n n′ : ℕ) (i i′ : List ℕ) → Writes y R img offset bytes n i → Writes y R img offset bytes n′ i′ → (n ≡ n′) × (i ≡ i′)
+  write-tight offset bytes n n′ i i′ p q = (same (p .answer) (q .answer), same (p .image) (q .image))
+
+  pub fail-tight : (target n n′ : ℕ) (S S′ : Record) → Fails y R img target n S → Fails y R img target n′ S′ → (n ≡ n′) × (S ≡ S′)
+  fail-tight target n n′ S S′ p q = (same (p .answer) (q .answer), same (p .rec) (q .rec))
+
+  pub repair-tight : (n n′ k k′ : ℕ) (S S′ : Record) (i i′ : List ℕ) → Repairs y R img n k S i → Repairs y R img n′ k′ S′ i′
+      → (n ≡ n′) × (k ≡ k′) × (S ≡ S′) × (i ≡ i′)
+  repair-tight n n′ k k′ S S′ i i′ p q =
+      (same (p .answer) (q .answer), same (p .pairs) (q .pairs), same (p .rec) (q .rec), same (p .image) (q .image))
+
+  pub prepare-tight : (room group content n n′ : ℕ) (s s′ : List ℕ) → Prepares y R img room group content n s → Prepares y R img room group content n′ s′
+      → (n ≡ n′) × (s ≡ s′)
+  prepare-tight room group content n n′ s s′ p q = (same (p .answer) (q .answer), same (p .bytes) (q .bytes))
+
+  pub show-tight : (scratch : List ℕ) (group content n n′ : ℕ) (s s′ : List ℕ) → Shows y R img scratch group content n s → Shows y R img scratch group content n′ s′
+      → (n ≡ n′) × (s ≡ s′)
+  show-tight scratch group content n n′ s s′ p q = (same (p .answer) (q .answer), same (p .bytes) (q .bytes))

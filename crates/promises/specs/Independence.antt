@@ -1,0 +1,104 @@
+-- "But for the hex line, no answer and no other byte depends on a failed target's bytes or an unused spare's, and no call changes them, except that
+-- repair stores at the spares that become homes." For each call, on any layout, record and image: two images that agree elsewhere give the same
+-- answers and agree elsewhere afterwards. A refusal number, a record and a repair's count depend on no byte: they take the image's length alone.
+use mathlib.Core.Path.{_≡_, sym, ap}
+use mathlib.Core.Logic.{⊎-elim}
+use mathlib.Core.Bool.{true}
+use mathlib.Core.List.{List}
+use Prim.Native.Nat.{ℕ, _<_}
+use lib.ListN.{length}
+use Rattle.lists.specs.Tabulate.{at}
+use Rattle.numbers.specs.declared.Layout.{Layout}
+use Rattle.numbers.specs.Layouts.{Valid}
+use Rattle.place.specs.Bytes.{targetHere}
+use Rattle.homes.specs.declared.Record.{Record}
+use Rattle.homes.specs.Records.{failed}
+use Rattle.pool.specs.Refusals.{rangeRefusal, failRefusal, repairRefusal, lookRefusal}
+use Rattle.pool.specs.Reading.{readOut}
+use Rattle.pool.specs.Writing.{writeImage}
+use Rattle.pool.specs.Failing.{failRecord}
+use Rattle.pool.specs.Repairing.{repairImage, repairRecord, repairCount}
+use Rattle.pool.specs.Looking.{lookScratch, lookShown}
+use Rattle.pool.specs.Changes.{Mended, repair-changes, repair-spares-failed}
+use Rattle.pool.specs.Blind.{read-blind, prepare-blind, show-blind}
+use Rattle.pool.specs.Elsewhere.{unseen, AgreeElsewhere, agree-of}
+use Rattle.pool.specs.ElsewhereKept.{write-elsewhere, fail-elsewhere, repair-elsewhere, write-spares-unseen}
+use Rattle.promises.specs.Runs.{Event, start, run, reink}
+use Rattle.promises.specs.RunLaws.{Twins, started, twins, twins-start}
+
+-- ---- what nothing depends on
+
+module _ (y : Layout) (R : Record) (img img′ : List ℕ) (agree : AgreeElsewhere y R img img′) where
+  pub read-independent : (offset size : ℕ)
+      → (rangeRefusal y R (length img) offset size ≡ rangeRefusal y R (length img′) offset size) × (readOut y R img offset size ≡ readOut y R img′ offset size)
+  read-independent offset size =
+      (ap (λ (n : ℕ). rangeRefusal y R n offset size) (sym (agree .same-length)), read-blind y R img img′ (agree-of y R img img′ agree) offset size)
+
+  pub write-independent : (offset : ℕ) (bytes : List ℕ)
+      → (rangeRefusal y R (length img) offset (length bytes) ≡ rangeRefusal y R (length img′) offset (length bytes))
+      × AgreeElsewhere y R (writeImage y R img offset bytes) (writeImage y R img′ offset bytes)
+  write-independent offset bytes =
+      (ap (λ (n : ℕ). rangeRefusal y R n offset (length bytes)) (sym (agree .same-length)), write-elsewhere y R img img′ agree offset bytes)
+
+  pub fail-independent : (target : ℕ)
+      → (failRefusal y R (length img) target ≡ failRefusal y R (length img′) target)
+      × (failRecord y R (length img) target ≡ failRecord y R (length img′) target)
+      × AgreeElsewhere y (failRecord y R (length img) target) img img′
+  fail-independent target = (
+    ap (λ (n : ℕ). failRefusal y R n target) (sym (agree .same-length)),
+    ap (λ (n : ℕ). failRecord y R n target) (sym (agree .same-length)),
+    fail-elsewhere y R img img′ agree target,
+  )
+
+  -- they agree afterwards also at the spares that have become homes
+  pub repair-independent :
+      (repairRefusal y R (length img) ≡ repairRefusal y R (length img′))
+      × (repairCount y R (length img) ≡ repairCount y R (length img′))
+      × (repairRecord y R (length img) ≡ repairRecord y R (length img′))
+      × AgreeElsewhere y (repairRecord y R (length img)) (repairImage y R img) (repairImage y R img′)
+  repair-independent = (
+    ap (repairRefusal y R) (sym (agree .same-length)),
+    ap (repairCount y R) (sym (agree .same-length)),
+    ap (repairRecord y R) (sym (agree .same-length)),
+    repair-elsewhere y R img img′ agree,
+  )
+
+  pub prepare-independent : (room group content : ℕ)
+      → (lookRefusal y R (length img) room group content ≡ lookRefusal y R (length img′) room group content)
+      × (lookScratch y R img room group content ≡ lookScratch y R img′ room group content)
+  prepare-independent room group content =
+      (ap (λ (n : ℕ). lookRefusal y R n room group content) (sym (agree .same-length)), prepare-blind y R img img′ (agree-of y R img img′ agree) room group content)
+
+  pub show-independent : (scratch : List ℕ) (group content : ℕ)
+      → (lookRefusal y R (length img) (length scratch) group content ≡ lookRefusal y R (length img′) (length scratch) group content)
+      × (lookShown y R img scratch group content ≡ lookShown y R img′ scratch group content)
+  show-independent scratch group content =
+      (ap (λ (n : ℕ). lookRefusal y R n (length scratch) group content) (sym (agree .same-length)), show-blind y R img img′ (agree-of y R img img′ agree) scratch group content)
+
+-- ---- what no call changes: fail, read, prepare and show change no byte of the image at all
+
+module _ (y : Layout) (R : Record) (img : List ℕ) (x : ℕ) (in-image : x < length img) where
+  -- a write, neither a failed target's byte nor an unused spare's
+  pub write-leaves : (offset : ℕ) (bytes : List ℕ) → unseen y R x ≡ true → at (writeImage y R img offset bytes) x ≡ at img x
+  write-leaves offset bytes = write-spares-unseen y R img offset bytes x in-image
+
+  -- a repair, no failed target's byte, and of the others only those of the spares that become homes
+  pub repair-leaves : failed R (targetHere y x) ≡ true → at (repairImage y R img) x ≡ at img x
+  repair-leaves = repair-spares-failed y R img x in-image
+
+  pub repair-leaves-others : (Mended y R x → ⊥) → at (repairImage y R img) x ≡ at img x
+  repair-leaves-others no-home = ⊎-elim (λ e. e) (λ w. absurd (no-home w)) (repair-changes y R img x in-image)
+
+-- ---- runs: no record, no read, no prepared and no shown look depends on what others scribble
+
+module _ (y : Layout) (valid : Valid y) (room : List ℕ) (three : length room ≡ 3) (es : List Event) (inks : ℕ → ℕ → ℕ) where
+  together : Twins y (run y (start y room) es) (run y (start y room) (reink inks es))
+  together = twins y valid es inks (start y room) (start y room) (started y valid room three) (twins-start y (start y room))
+
+  pub scribbles-unrecorded : run y (start y room) (reink inks es) .rec ≡ run y (start y room) es .rec
+  scribbles-unrecorded = together .rec
+
+  pub scribbles-unread : (offset size : ℕ)
+      → readOut y (run y (start y room) es .rec) (run y (start y room) es .img) offset size
+      ≡ readOut y (run y (start y room) es .rec) (run y (start y room) (reink inks es) .img) offset size
+  scribbles-unread = read-blind y (run y (start y room) es .rec) (run y (start y room) es .img) (run y (start y room) (reink inks es) .img) (together .agree)
