@@ -1,7 +1,7 @@
 -- A whole run: from the runs of scratch to the columns.
 use mathlib.Core.Path.{_≡_, refl, sym, ap, ap₂, subst, subst⁻¹, _∙_}
 use mathlib.Core.Logic.{⊎-elim}
-use mathlib.Core.Bool.{Bool, true, false}
+use mathlib.Core.Bool.{Bool, true, false, not}
 use mathlib.Core.List.{List}
 use Prim.Native.Nat.{ℕ, _+_, _-_, _*_, _<_, _≤_}
 use native.Mathlib.Nat.{le-refl}
@@ -9,7 +9,7 @@ use native.Mathlib.Omega.{arith}
 use borrow.Author.Tests.{ltb-true, ltb-false}
 use lib.Dec.{ltb, eqb}
 use lib.ListN.{length, getD}
-use Rattle.lists.specs.Pick.{pick, pick-true, pick-false, either-way, clash, below-or-not}
+use Rattle.lists.specs.Pick.{pick, pick-true, pick-false, either-way, both-true}
 use Rattle.lists.specs.Part.{within, within-in}
 use Rattle.field.specs.Byte.{mul}
 use Rattle.field.specs.Sum.{sumTo, sum-cong}
@@ -45,11 +45,6 @@ by-kind : (t m : Bool) (b l i b′ l′ i′ : ℕ) → (t ≡ true → b ≡ b�
 by-kind true m b l i b′ l′ i′ hb hl hi = hb refl
 by-kind false true b l i b′ l′ i′ hb hl hi = hl refl refl
 by-kind false false b l i b′ l′ i′ hb hl hi = hi refl
-
-named-if : (m d w : Bool) → d ≡ true → pick m false (pick d w true) ≡ true → w ≡ true
-named-if true d w e h = clash true refl (sym h)
-named-if false true w e h = h
-named-if false false w e h = clash true refl (sym e)
 
 module _ (P : Plan) (S : Origin) (s a from units lo len : ℕ) {size count : ℕ} (fits : Fits P size) (run : RunFits P s a from units lo len count)
     (src : OriginOf P S s a from units lo) where
@@ -133,7 +128,7 @@ module _ (P : Plan) (S : Origin) (img bytes lost lost₀ par par₀ : List ℕ) 
   stored-is c h t o ho =
       ⊎-elim
       (λ (d : ltb c (P .n) ≡ true).
-      let w : within from units c ≡ true = named-if (missOf P c) (ltb c (P .n)) (within from units c) d t in
+      let w : within from units c ≡ true = sym (pick-true (ltb c (P .n)) _ _ d) ∙ both-true (not (missOf P c)) _ t .1 in
       pick-true (ltb c (P .n)) _ _ d ∙ named-byte c o (ltb-true c (P .n) d) w ∙ sym (pick-true (ltb c (P .n)) _ _ d ∙ laid-named c (lo + o) w))
       (λ (d : ltb c (P .n) ≡ false).
       let b : P .n ≤ c = ltb-false c (P .n) d in

@@ -9,7 +9,7 @@ use native.Mathlib.Omega.{arith}
 use borrow.Author.Tests.{lt-ltb, le-ltb}
 use lib.Dec.{ltb, eqb}
 use lib.ListN.{length, getD}
-use Rattle.lists.specs.Pick.{pick, pick-true, pick-false, clash}
+use Rattle.lists.specs.Pick.{pick, both, pick-true, pick-false, clash}
 use Rattle.lists.specs.Part.{within, within-in}
 use Rattle.lists.specs.Span.{Span}
 use Rattle.field.specs.Byte.{_⊕_, mul}
@@ -100,6 +100,12 @@ parities-turn S codes n img bytes lost len i l₀ l l′ row hr e e′ =
     (e′ ∙ ap (λ (r : List ℕ). runSet (i * 4096) len (parityRun S r n img bytes lost) l) hr)
 
 -- ---- storing
+
+pub absent : (m x : Bool) → m ≡ true → both (not m) x ≡ false
+absent m x e = ap (λ (t : Bool). both (not t) x) e
+
+pub present : (m x : Bool) → m ≡ false → both (not m) x ≡ x
+present m x e = ap (λ (t : Bool). both (not t) x) e
 
 -- nothing is stored, or the run
 pub kept-off : (t b : Bool) (x y : List ℕ) → b ≡ t → not b ≡ true → y ≡ pick t x y

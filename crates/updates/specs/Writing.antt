@@ -1,12 +1,12 @@
 -- What a write makes of a group, one column at a time. Byte o of data unit j is byte s + (u j + o) of the file, and the bytes to write begin at
 -- the file's byte a. `named j`: data unit j is named at this unit offset.
-use mathlib.Core.Bool.{Bool, true, false}
+use mathlib.Core.Bool.{Bool, true, not}
 use mathlib.Core.List.{List}
 use mathlib.Core.Path.{_≡_}
 use Prim.Native.Nat.{ℕ, _+_, _-_, _*_, _<_, _≤_}
 use lib.Dec.{ltb}
 use lib.ListN.{getD}
-use Rattle.lists.specs.Pick.{pick}
+use Rattle.lists.specs.Pick.{pick, both}
 use Rattle.lists.specs.Part.{within}
 use Rattle.parity.specs.Group.{content}
 use Rattle.plan.specs.declared.Plan.{Plan}
@@ -23,7 +23,7 @@ newContent P img bytes s a named o c = content (P .n) (laid P img bytes s a name
 
 -- "each where its content is present"
 unfoldable pub storesIn : Plan → (ℕ → Bool) → ℕ → Bool
-storesIn P named c = pick (missOf P c) false (pick (ltb c (P .n)) (named c) true)
+storesIn P named c = both (not (missOf P c)) (pick (ltb c (P .n)) (named c) true)
 
 -- the same by runs, from unit offset lo on
 unfoldable pub newRun : Plan → List ℕ → List ℕ → ℕ → ℕ → (ℕ → Bool) → ℕ → ℕ → ℕ → ℕ
