@@ -18,7 +18,7 @@ use Rattle.systems.specs.Cramer.{sol, row}
 use Rattle.systems.specs.System.{sys}
 use Rattle.parity.specs.Group.{Solvable, lost, there, equations, left, known, dataOf, rebuilt}
 use Rattle.parity.specs.Content.{content-cong}
-use Rattle.parity.specs.Restores.{lost-most, there-lt}
+use Rattle.parity.specs.Restores.{lost-most, there-lt, there-in}
 use Rattle.parity.specs.Rows.{slot, rowOf, row-gives}
 
 pub those-same : (f g : ℕ → Bool) (n : ℕ) → ((k : ℕ) → k < n → f k ≡ g k) → those f n ≡ those g n
@@ -79,15 +79,25 @@ module _ (n k : ℕ) (miss : ℕ → Bool) (s : Solvable n k miss) where
       subst⁻¹ (λ (x : ℕ). x < n + k) (pick-true (miss j) _ j t) (there-lt n k miss s (count miss j) (those-place miss n j h t .0)))
       (λ (t : miss j ≡ false). subst⁻¹ (λ (x : ℕ). x < n + k) (pick-false (miss j) _ j t) (omega arith)) (either-way (miss j))
 
+  -- and it is there
+  pub slot-there : (j : ℕ) → j < n → miss (slot n k miss j) ≡ false
+  unfolding slot
+  slot-there j h =
+      ⊎-elim
+      (λ (t : miss j ≡ true). ap miss (pick-true (miss j) _ j t) ∙ there-in n k miss s (count miss j) (those-place miss n j h t .0))
+      (λ (t : miss j ≡ false). ap miss (pick-false (miss j) _ j t) ∙ t) (either-way (miss j))
+
   kept : (d : ℕ → ℕ) (c : ℕ) → miss c ≡ false → rebuilt n k miss d c ≡ d c
   unfolding rebuilt
   kept d c t = pick-false (miss c) _ (d c) t
 
-  pub rebuilt-same : (old new : ℕ → ℕ) → ((c : ℕ) → c < n + k → old c ≡ new c) → (c : ℕ) → c < n + k → rebuilt n k miss old c ≡ rebuilt n k miss new c
+  -- bytes of missing units do not count
+  pub rebuilt-same : (old new : ℕ → ℕ) → ((c : ℕ) → c < n + k → miss c ≡ false → old c ≡ new c) → (c : ℕ) → c < n + k
+      → rebuilt n k miss old c ≡ rebuilt n k miss new c
   rebuilt-same old new e c h =
       ⊎-elim
       (λ (t : miss c ≡ true).
       row-gives n k miss (lost-most n k miss s) old c t
-      ∙ sum-cong n _ _ (λ j l. ap (mul (rowOf n k miss c j)) (e (slot n k miss j) (slot-in j l)))
+      ∙ sum-cong n _ _ (λ j l. ap (mul (rowOf n k miss c j)) (e (slot n k miss j) (slot-in j l) (slot-there j l)))
       ∙ sym (row-gives n k miss (lost-most n k miss s) new c t))
-      (λ (t : miss c ≡ false). kept old c t ∙ e c h ∙ sym (kept new c t)) (either-way (miss c))
+      (λ (t : miss c ≡ false). kept old c t ∙ e c h t ∙ sym (kept new c t)) (either-way (miss c))

@@ -1,0 +1,4 @@
+pub mod Writing
+pub mod Origin
+pub mod Steps
+pub mod Made
