@@ -1,17 +1,16 @@
 // Encodings and rebuilds of groups over the whole range of N, K, U and missing sets, agreeing and disagreeing ones, and every refusal;
 // seeded, and compared with what `oracle/` prints.
-mod drawn;
-mod every;
-
-use drawn::Group;
-use drawn::Units;
+use group_trial::drawn;
+use group_trial::drawn::Group;
+use group_trial::drawn::Units;
+use group_trial::every;
 use numbers::Layout;
 use trial::checksum;
 use trial::newline;
 use trial::number;
 use trial::text;
 ghost use Prim.Native.Nat.{_≤_};
-ghost use Rattle.codes.specs.Bounds.{Bounded};
+ghost use Rattle.group_trial.specs.Bounds.{Bounded};
 
 fn print_units(l: Units) {
     let at = l.at;

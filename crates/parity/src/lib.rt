@@ -46,18 +46,18 @@ fn present_parity(miss: [bool; 19], n: usize, k: usize) -> Few
     ensures { λ r. ⌜ Holds (those (present miss n) k) (r .at) (r .count) ⌝ }
 {
     let mut found = [0usize; 3];
-    let mut d: usize = 0;
+    let mut c: usize = 0;
     let mut i: usize = 0;
     while i < k {
         if !miss[n + i] {
-            found[d] = i;
-            d += 1;
+            found[c] = i;
+            c += 1;
         }
         i += 1;
     }
     Few {
         at: found,
-        count: d,
+        count: c,
     }
 }
 

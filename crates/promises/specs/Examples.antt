@@ -17,6 +17,12 @@ use Rattle.place.specs.declared.Place.{Place}
 use Rattle.place.specs.Units.{frameOf, targetOf, groupAt, unitAt}
 use Rattle.place.specs.Places.{placeOf, unitOf}
 use Rattle.place.specs.Bytes.{groupOf, unitIn, byteIn, spotOf, imageByte}
+use Rattle.field.specs.Byte.{_⊕_, mul, mulDigits, double, scale, inv, powerDigits, div}
+use Rattle.field.specs.Sum.{sumTo}
+use Rattle.systems.specs.Coef.{coef}
+use Rattle.parity.specs.Group.{parityOf, content}
+use Rattle.coding.specs.Buffer.{contentByte, encodedOf}
+use Rattle.group.specs.Encode.{encodeRefusal, encoded}
 use Rattle.homes.specs.declared.Record.{Record}
 use Rattle.homes.specs.Listed.{listed}
 use Rattle.homes.specs.Homes.{free, move, homes}
@@ -71,9 +77,12 @@ pub examples :
     × (three small 2 ≡ at 1 3 ∷ at 1 0 ∷ at 2 2 ∷ [])
     × (three small 3 ≡ at 2 1 ∷ at 2 3 ∷ at 2 0 ∷ [])
     × (groupOf small 9 ∷ unitIn small 9 ∷ byteIn small 9 ∷ imageByte small 9 ∷ [] ≡ 2 ∷ 0 ∷ 1 ∷ 41 ∷ [])
+    × (mul 2 142 ∷ mul 2 128 ∷ [] ≡ 1 ∷ 29 ∷ [])
+    × (coef 1 1 ≡ 232)
+    × (encoded (layout 2 2 6 1 1 0) (0 ∷ 2 ∷ 0 ∷ 0 ∷ []) ≡ 0 ∷ 2 ∷ 2 ∷ 205 ∷ [])
     × (failRefusal small none 48 3 ∷ failed3 .k ∷ nth (failed3 .failed) 0 ∷ [] ≡ 0 ∷ 1 ∷ 3 ∷ [])
     × (lost 0 ∷ lost 1 ∷ lost 2 ∷ lost 3 ∷ [] ≡ (false ∷ false ∷ []) ∷ (false ∷ false ∷ []) ∷ (true ∷ false ∷ []) ∷ (false ∷ true ∷ []) ∷ [])
     × (newHome 2 0 ∷ newHome 3 1 ∷ [] ≡ at 2 2 ∷ at 2 0 ∷ [])
     × (dataOn 0 3 ∷ dataOn 3 0 ∷ dataOn 4 0 ∷ [] ≡ 4 ∷ 4 ∷ 3 ∷ [])
-unfolding tabulate _orElse_ refusalBy gcd gcdIn lcm block rows groups validb layoutRefusal startOf nextOf drawOf own exchange shuffleOf permutationOf indexOf inverseOf frameOf targetOf groupAt unitAt placeOf unitOf groupOf unitIn byteIn spotOf imageByte any all lowest listed free move homes recordGood home missing failRefusal failRecord
-examples = (refl, refl, refl, refl, refl, refl, refl, refl, refl, refl, refl, refl, refl, refl, refl)
+unfolding tabulate _orElse_ refusalBy gcd gcdIn lcm block rows groups validb layoutRefusal startOf nextOf drawOf own exchange shuffleOf permutationOf indexOf inverseOf frameOf targetOf groupAt unitAt placeOf unitOf groupOf unitIn byteIn spotOf imageByte any all lowest listed free move homes recordGood home missing failRefusal failRecord _⊕_ mul mulDigits double scale inv powerDigits div coef sumTo parityOf content contentByte encodedOf encodeRefusal encoded
+examples = (refl, refl, refl, refl, refl, refl, refl, refl, refl, refl, refl, refl, refl, refl, refl, refl, refl, refl)

@@ -1,4 +1,5 @@
 pub mod Placement
+pub mod Parity
 pub mod Walks
 pub mod Runs
 pub mod RunLaws

@@ -1,4 +1,4 @@
--- `field::mul`. The loop keeps: the sum so far and the product of what is left of b give the product.
+-- `field::mul`. The loop keeps: the sum so far and the product of what is left of b give the product. A factor 0 is answered by `zero-mul` and `mul-zero`.
 use mathlib.Core.Path.{_≡_, refl, sym, ap, ap₂, _∙_}
 use mathlib.Core.Logic.{⊎-elim}
 use Prim.Native.Nat.{ℕ, suc, _+_, _-_, _/_, _%_, _<_, _≤_}
@@ -7,6 +7,7 @@ use native.Mathlib.Omega.{arith}
 use lib.Bits.{bitXor, xor-zero-r}
 use borrow.Author.Needs.{needs}
 use Rattle.field.specs.Byte.{double, scale, mulDigits, mul}
+use Rattle.field.specs.Laws.{zero-mul, mul-zero}
 use Rattle.field.specs.Xor.{bit-cases, digit, xor-assoc}
 use Rattle.field.proofs.mul.Statement.{statement}
 use Rattle.field.proofs.mul.Tie as tie
@@ -17,9 +18,15 @@ Inv-loop a b sum₀ x₀ y₀ i₀ sum x y i = (i ≤ 8) × (bitXor sum (mulDigi
 abbrev μ-loop : tie.MeasureT-loop
 μ-loop a b sum₀ x₀ y₀ i₀ sum x y i = 8 - i
 
+returns : tie.Need-returns Inv-loop μ-loop
+returns c = sym (ap (λ (x : ℕ). mul x (c .before .args .b)) (c .if1 .taken) ∙ zero-mul (c .before .args .b))
+
+returns-2 : tie.Need-returns-2 Inv-loop μ-loop
+returns-2 c = sym (ap (mul (c .before .before .args .a)) (c .if2 .taken) ∙ mul-zero (c .before .before .args .a))
+
 loop-holds : tie.Need-loop-holds Inv-loop μ-loop
 unfolding mul
-loop-holds c = (omega arith, ap (λ (x : ℕ). mulDigits 8 x (c .args .b)) (sym (mod-eq-of-lt (search needs))))
+loop-holds c = (omega arith, ap (λ (x : ℕ). mulDigits 8 x (c .before .before .args .b)) (sym (mod-eq-of-lt (search needs))))
 
 double-requires : tie.Need-double-requires Inv-loop μ-loop
 double-requires c κs = search needs
@@ -52,14 +59,14 @@ loop-again : tie.Need-loop-again Inv-loop μ-loop
 loop-again c =
     let l = c .before .before .before .loop in (
       omega arith,
-      turn (l .sum) (c .before .if1 .sum) (l .x) (l .y) (l .i) _ (omega arith) (l .inv .1)
-          (⊎-elim (λ w. w .1 ∙ odd (l .sum) (l .x) (l .y % 2) (w .0 .taken)) (λ w. w .1 ∙ even (l .sum) (l .x) (l .y % 2) (digit (l .y)) (w .0 .left)) (c .before .if1 .came))
+      turn (l .sum) (c .before .if3 .sum) (l .x) (l .y) (l .i) _ (omega arith) (l .inv .1)
+          (⊎-elim (λ w. w .1 ∙ odd (l .sum) (l .x) (l .y % 2) (w .0 .taken)) (λ w. w .1 ∙ even (l .sum) (l .x) (l .y % 2) (digit (l .y)) (w .0 .left)) (c .before .if3 .came))
           (c .double .ensures),
     )
 
-returns : tie.Need-returns Inv-loop μ-loop
+returns-3 : tie.Need-returns-3 Inv-loop μ-loop
 unfolding mulDigits
-returns c =
+returns-3 c =
     let l = c .before .loop in
     let n : 8 - l .i ≡ 0 = omega arith in
     sym (xor-zero-r (l .sum)) ∙ ap (λ (m : ℕ). bitXor (l .sum) (mulDigits m (l .x) (l .y))) (sym n) ∙ l .inv .1
@@ -67,4 +74,4 @@ returns c =
 pub mul-spec : {M : Type 1} → statement M
 mul-spec =
     tie.close
-    (tie.spec Inv-loop μ-loop loop-holds double-requires add-i loop-less loop-again returns)
+    (tie.spec Inv-loop μ-loop returns returns-2 loop-holds double-requires add-i loop-less loop-again returns-3)

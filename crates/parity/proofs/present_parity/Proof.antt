@@ -19,11 +19,11 @@ few-there : (miss : List Bool) (n k : ℕ) → k ≤ 3 → length (those (presen
 few-there miss n k h = omega (arith, length-those (present miss n) k, count-le (present miss n) k)
 
 abbrev Inv-loop : tie.InvT-loop
-Inv-loop n k miss found₀ d₀ i₀ found d i =
-    (i ≤ k) × Holds (those (present miss n) i) found d
+Inv-loop n k miss found₀ c₀ i₀ found c i =
+    (i ≤ k) × Holds (those (present miss n) i) found c
 
 abbrev μ-loop : tie.MeasureT-loop
-μ-loop n k miss found₀ d₀ i₀ found d i = k - i
+μ-loop n k miss found₀ c₀ i₀ found c i = k - i
 
 loop-holds : tie.Need-loop-holds Inv-loop μ-loop
 loop-holds c = (omega arith, found-start (present (c .args .t1) (c .args .n)))
@@ -40,8 +40,8 @@ mul-found c = let a = c .before .before .before .args in let l = c .before .befo
 array-write-found : tie.Need-array-write-found Inv-loop μ-loop
 array-write-found c = let a = c .before .before .before .args in let l = c .before .before .loop in let h = room (present (a .t1) (a .n)) (a .k) (l .i) (l .inv .1 .count-is) (omega arith) (c .if1 .taken) (few-there (a .t1) (a .n) (a .k) (c .before .before .before .pre .1)) in omega arith
 
-add-d : tie.Need-add-d Inv-loop μ-loop
-add-d c = let a = c .before .before .before .args in let l = c .before .before .loop in let h = room (present (a .t1) (a .n)) (a .k) (l .i) (l .inv .1 .count-is) (omega arith) (c .if1 .taken) (few-there (a .t1) (a .n) (a .k) (c .before .before .before .pre .1)) in omega arith
+add-c : tie.Need-add-c Inv-loop μ-loop
+add-c c = let a = c .before .before .before .args in let l = c .before .before .loop in let h = room (present (a .t1) (a .n)) (a .k) (l .i) (l .inv .1 .count-is) (omega arith) (c .if1 .taken) (few-there (a .t1) (a .n) (a .k) (c .before .before .before .pre .1)) in omega arith
 
 add-i : tie.Need-add-i Inv-loop μ-loop
 add-i c = search needs
@@ -56,15 +56,15 @@ loop-again c =
     let m = present (a .t1) (a .n) in (
       omega arith,
       ⊎-elim
-          (λ w. held (w .1) (w .2) (found-one m (l .i) (l .d) (l .found) (l .inv .1) (w .0 .taken) (room m (a .k) (l .i) (l .inv .1 .count-is) (omega arith) (w .0 .taken) (few-there (a .t1) (a .n) (a .k) (c .before .before .before .pre .1)))))
-          (λ w. held (w .1) (w .2) (found-none m (l .i) (l .d) (l .found) (l .inv .1) (w .0 .left))) (c .if1 .came),
+          (λ w. held (w .1) (w .2) (found-one m (l .i) (l .c) (l .found) (l .inv .1) (w .0 .taken) (room m (a .k) (l .i) (l .inv .1 .count-is) (omega arith) (w .0 .taken) (few-there (a .t1) (a .n) (a .k) (c .before .before .before .pre .1)))))
+          (λ w. held (w .1) (w .2) (found-none m (l .i) (l .c) (l .found) (l .inv .1) (w .0 .left))) (c .if1 .came),
     )
 
 returns : tie.Need-returns Inv-loop μ-loop
 returns c =
     let l = c .before .loop in
     let e : l .i ≡ c .before .before .args .k = omega arith in
-    subst (λ (z : ℕ). Holds (those (present (c .before .before .args .t1) (c .before .before .args .n)) z) (l .found) (l .d)) e (l .inv .1)
+    subst (λ (z : ℕ). Holds (those (present (c .before .before .args .t1) (c .before .before .args .n)) z) (l .found) (l .c)) e (l .inv .1)
 
 pub present-parity-spec : {M : Type 1} → statement M
 present-parity-spec =
@@ -77,7 +77,7 @@ present-parity-spec =
     array-read-if1
     mul-found
     array-write-found
-    add-d
+    add-c
     add-i
     loop-less
     loop-again

@@ -3,7 +3,7 @@ use numbers::Layout;
 use trial::draw;
 ghost use mathlib.Core.Path.{_≡_};
 ghost use Prim.Native.Nat.{_*_, _<_, _≤_};
-ghost use Rattle.codes.specs.Bounds.{Bounded};
+ghost use Rattle.group_trial.specs.Bounds.{Bounded};
 
 const ONES: u64 = 18446744073709551615;
 

@@ -1,10 +1,10 @@
--- `codes::every::pattern`. The products of the bounds are small.
+-- `group_trial::every::pattern`. The products of the bounds are small.
 use Prim.Native.Nat.{_+_, _≤_}
 use native.Mathlib.Omega.{arith}
 use native.Mathlib.Nat.{mul-le-mul}
 use borrow.Author.Needs.{needs}
-use Rattle.codes.proofs.every.pattern.Statement.{statement}
-use Rattle.codes.proofs.every.pattern.Tie as tie
+use Rattle.group_trial.proofs.every.pattern.Statement.{statement}
+use Rattle.group_trial.proofs.every.pattern.Tie as tie
 
 add-result : tie.Need-add-result
 add-result c = search needs

@@ -1,8 +1,8 @@
--- `codes::drawn::units_by`. Safe, and it ends.
+-- `group_trial::drawn::units_by`. Safe, and it ends.
 use borrow.Author.Needs.{needs}
 use Prim.Native.Nat.{_-_, _≤_}
-use Rattle.codes.proofs.drawn.units_by.Statement.{statement}
-use Rattle.codes.proofs.drawn.units_by.Tie as tie
+use Rattle.group_trial.proofs.drawn.units_by.Statement.{statement}
+use Rattle.group_trial.proofs.drawn.units_by.Tie as tie
 
 abbrev Inv-loop : tie.InvT-loop
 Inv-loop seed₀ m contents at₀ i₀ seed at i =

@@ -1,9 +1,9 @@
--- `codes::every::sum_over`. Safe, and it ends.
+-- `group_trial::every::sum_over`. Safe, and it ends.
 use borrow.Author.Needs.{needs}
 use Prim.Native.Nat.{_-_, _<_, _≤_}
 use lib.ListN.{length}
-use Rattle.codes.proofs.every.sum_over.Statement.{statement}
-use Rattle.codes.proofs.every.sum_over.Tie as tie
+use Rattle.group_trial.proofs.every.sum_over.Statement.{statement}
+use Rattle.group_trial.proofs.every.sum_over.Tie as tie
 
 abbrev Inv-loop : tie.InvT-loop
 Inv-loop start bytes sum₀ i₀ sum i =

@@ -1,6 +1,6 @@
 -- The bounds of a drawn group, which keep the program's own sums small.
 use Prim.Native.Nat.{ℕ, _≤_}
-use Rattle.codes.specs.declared.drawn.Group.{Group}
+use Rattle.group_trial.specs.declared.drawn.Group.{Group}
 
 pub record Bounded (g : Group) : Type 0 where
   pub some : 1 ≤ g .n

@@ -1,9 +1,9 @@
--- `codes::drawn::times`. The product of the bounds is small.
+-- `group_trial::drawn::times`. The product of the bounds is small.
 use native.Mathlib.Omega.{arith}
 use native.Mathlib.Nat.{mul-le-mul}
 use borrow.Author.Needs.{needs}
-use Rattle.codes.proofs.drawn.times.Statement.{statement}
-use Rattle.codes.proofs.drawn.times.Tie as tie
+use Rattle.group_trial.proofs.drawn.times.Statement.{statement}
+use Rattle.group_trial.proofs.drawn.times.Tie as tie
 
 mul-result : tie.Need-mul-result
 mul-result c = omega (arith, mul-le-mul (c .pre .0) (c .pre .1))

@@ -7,7 +7,7 @@ use trial::text;
 ghost use mathlib.Core.Path.{_≡_};
 ghost use lib.ListN.{length};
 ghost use Prim.Native.Nat.{_*_, _<_, _≤_};
-ghost use Rattle.codes.specs.Bounds.{Bounded};
+ghost use Rattle.group_trial.specs.Bounds.{Bounded};
 
 fn next_sum(sum: u64, byte: u8) -> u64
     requires { ⌜ sum < 2147483647 ⌝ }

@@ -1,9 +1,9 @@
--- `codes::every::lists_of`. 19 · 19 · 19 is 6859.
+-- `group_trial::every::lists_of`. 19 · 19 · 19 is 6859.
 use native.Mathlib.Omega.{arith}
 use native.Mathlib.Nat.{mul-le-mul}
 use borrow.Author.Needs.{needs}
-use Rattle.codes.proofs.every.lists_of.Statement.{statement}
-use Rattle.codes.proofs.every.lists_of.Tie as tie
+use Rattle.group_trial.proofs.every.lists_of.Statement.{statement}
+use Rattle.group_trial.proofs.every.lists_of.Tie as tie
 
 returns : tie.Need-returns
 returns c = search needs

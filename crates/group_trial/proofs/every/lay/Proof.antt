@@ -1,10 +1,10 @@
--- `codes::every::lay`. Safe, and it ends.
+-- `group_trial::every::lay`. Safe, and it ends.
 use borrow.Author.Needs.{needs}
 use Prim.Native.Nat.{_-_, _≤_}
 use lib.ListN.{length, length-set}
 use mathlib.Core.Path.{_≡_, refl}
-use Rattle.codes.proofs.every.lay.Statement.{statement}
-use Rattle.codes.proofs.every.lay.Tie as tie
+use Rattle.group_trial.proofs.every.lay.Statement.{statement}
+use Rattle.group_trial.proofs.every.lay.Tie as tie
 
 abbrev Inv-loop : tie.InvT-loop
 Inv-loop bytes₀ x i₀ bytes i =

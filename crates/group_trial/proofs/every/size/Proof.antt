@@ -1,10 +1,10 @@
--- `codes::every::size`. Safe, and it ends.
+-- `group_trial::every::size`. Safe, and it ends.
 use borrow.Author.Needs.{needs}
 use Prim.Native.Nat.{_-_, _<_, _≤_}
 use lib.ListN.{length}
 use mathlib.Core.Path.{_≡_, refl, _∙_}
-use Rattle.codes.proofs.every.size.Statement.{statement}
-use Rattle.codes.proofs.every.size.Tie as tie
+use Rattle.group_trial.proofs.every.size.Statement.{statement}
+use Rattle.group_trial.proofs.every.size.Tie as tie
 
 abbrev Inv-loop : tie.InvT-loop
 Inv-loop buffer₀ g total sum₀ x₀ t6 buffer sum x =
