@@ -33,3 +33,9 @@ orElse-left (suc a) b f = refl
 pub unless-zero : (t : Bool) (n : ℕ) → unless t (suc n) ≡ 0 → t ≡ true
 unless-zero true n e = refl
 unless-zero false n e = absurd (omega arith)
+
+-- the first test of a table, and what the rest of the table gives
+pub orElse-unless : (t : Bool) (n b : ℕ) → unless t (suc n) orElse b ≡ pick t b (suc n)
+unfolding _orElse_
+orElse-unless true n b = refl
+orElse-unless false n b = refl

@@ -1,0 +1,15 @@
+-- `entries::start` meets its contract: each return is the arm that its tests pick.
+use borrow.Author.Needs.{needs}
+use borrow.Author.Tests.{lt-ltb, le-ltb, le-leb, lt-leb, eq-eqb, ne-eqb}
+use native.Mathlib.Omega.{arith}
+use Rattle.entries.proofs.start.Statement.{statement}
+use Rattle.entries.proofs.start.Tie as tie
+
+least-requires : tie.Need-least-requires
+least-requires c κs = search needs
+
+returns : tie.Need-returns
+returns c = cc (c .least .ensures)
+
+pub start-spec : {M : Type 1} → statement M
+start-spec = tie.close (tie.spec least-requires returns)
