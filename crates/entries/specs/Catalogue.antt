@@ -4,9 +4,9 @@ use mathlib.Core.Bool.{Bool, _||_, false}
 use mathlib.Core.List.{List, [], _∷_, _++_, map}
 use lib.Dec.{ltb, leb, eqb}
 use lib.ListN.{length, getD, take}
-use Rattle.lists.specs.Pick.{pick, both}
+use Rattle.lists.specs.Pick.{both}
 use Rattle.lists.specs.Passing.{passing, over, nonempty}
-use Rattle.lists.specs.Refusal.{unless, _orElse_}
+use Rattle.lists.specs.Refusal.{refusalBy, grant}
 use Rattle.lists.specs.Tabulate.{zeros}
 use Rattle.entries.specs.declared.Entry.{Entry}
 use Rattle.entries.specs.declared.Key.{Key}
@@ -37,21 +37,28 @@ sound n ys = both (leb n (length ys)) (rising (take n ys))
 
 -- ---- "Lookup gives the cob or 11."
 
-abbrev pub heldCob : List Entry → Found
-heldCob [] = record { refusal = 11; cob = 0 }
-heldCob (r ∷ rs) = record { refusal = 0; cob = r .cob }
+-- the cob of the first record of a list, 0 if there is none
+abbrev pub cobOf : List Entry → ℕ
+cobOf [] = 0
+cobOf (r ∷ rs) = r .cob
+
+abbrev pub lookupTests : Key → ℕ → List Entry → List (Bool × ℕ)
+lookupTests k n ys = (sound n ys, 9) ∷ (nonempty (holders k (take n ys)), 11) ∷ []
+
+abbrev pub foundBy : ℕ → ℕ → Found
+foundBy number c = record { refusal = number; cob = grant number c 0 }
 
 abbrev pub lookupOf : Key → ℕ → List Entry → Found
-lookupOf k n ys = pick (sound n ys) (heldCob (holders k (take n ys))) (record { refusal = 9; cob = 0 })
+lookupOf k n ys = foundBy (refusalBy (lookupTests k n ys)) (cobOf (holders k (take n ys)))
 
 -- ---- a change, accepted where its number is 0: it answers the number of the records xs that are left, and the slice has zs in its first
 -- places; refused, it leaves count and slice as they were
 
 abbrev pub changed : ℕ → ℕ → List Entry → Changed
-changed number n xs = record { refusal = number; count = pick (eqb number 0) (length xs) n }
+changed number n xs = record { refusal = number; count = grant number (length xs) n }
 
 abbrev pub changedList : ℕ → List Entry → List Entry → List Entry
-changedList number zs ys = pick (eqb number 0) (over zs ys) ys
+changedList number zs ys = grant number (over zs ys) ys
 
 -- ---- "Insert replaces the cob of an equal key", else the record stands between those below it and those above it
 
@@ -62,8 +69,11 @@ inserted r xs = before (keyOf r) xs ++ r ∷ after (keyOf r) xs
 abbrev pub hasRoom : Entry → ℕ → List Entry → Bool
 hasRoom r n ys = nonempty (holders (keyOf r) (take n ys)) || ltb n (length ys)
 
+abbrev pub insertTests : Entry → ℕ → List Entry → List (Bool × ℕ)
+insertTests r n ys = (sound n ys, 9) ∷ (hasRoom r n ys, 10) ∷ []
+
 abbrev pub insertNumber : Entry → ℕ → List Entry → ℕ
-insertNumber r n ys = unless (sound n ys) 9 orElse unless (hasRoom r n ys) 10
+insertNumber r n ys = refusalBy (insertTests r n ys)
 
 abbrev pub insertOf : Entry → ℕ → List Entry → Changed
 insertOf r n ys = changed (insertNumber r n ys) n (inserted r (take n ys))
@@ -79,8 +89,11 @@ removed r xs = before (keyOf r) xs ++ after (keyOf r) xs
 abbrev pub matches : Entry → List Entry → List Entry
 matches r xs = passing (λ x. eqb (x .cob) (r .cob)) (holders (keyOf r) xs)
 
+abbrev pub deleteTests : Entry → ℕ → List Entry → List (Bool × ℕ)
+deleteTests r n ys = (sound n ys, 9) ∷ (nonempty (matches r (take n ys)), 11) ∷ []
+
 abbrev pub deleteNumber : Entry → ℕ → List Entry → ℕ
-deleteNumber r n ys = unless (sound n ys) 9 orElse unless (nonempty (matches r (take n ys))) 11
+deleteNumber r n ys = refusalBy (deleteTests r n ys)
 
 abbrev pub deleteOf : Entry → ℕ → List Entry → Changed
 deleteOf r n ys = changed (deleteNumber r n ys) n (removed r (take n ys))
@@ -97,16 +110,19 @@ cobs k xs = map (λ (r : Entry). r .cob) (onward k xs)
 abbrev pub files : List Entry → List ℕ
 files xs = map (λ (r : Entry). r .file) xs
 
+abbrev pub listingTests : ℕ → List Entry → List (Bool × ℕ)
+listingTests n ys = (sound n ys, 9) ∷ []
+
+abbrev pub pageBy : ℕ → ℕ → Bool → ℕ → Page
+pageBy number count more next =
+    record { refusal = number; count = grant number count 0; more = grant number more false; next = grant number next 0 }
+
 abbrev pub listingOf : Key → ℕ → List Entry → List ℕ → Page
 listingOf k n ys out =
-    pick (sound n ys)
-    (record {
-      refusal = 0;
-      count = length (take (length out) (cobs k (take n ys)));
-      more = ltb (length out) (length (cobs k (take n ys)));
-      next = getD (files (onward k (take n ys))) (length out) 0;
-    })
-    (record { refusal = 9; count = 0; more = false; next = 0 })
+    pageBy (refusalBy (listingTests n ys))
+    (length (take (length out) (cobs k (take n ys))))
+    (ltb (length out) (length (cobs k (take n ys))))
+    (getD (files (onward k (take n ys))) (length out) 0)
 
 abbrev pub listedOut : Key → ℕ → List Entry → List ℕ → List ℕ
-listedOut k n ys out = pick (sound n ys) (over (take (length out) (cobs k (take n ys))) out) (zeros (length out))
+listedOut k n ys out = grant (refusalBy (listingTests n ys)) (over (take (length out) (cobs k (take n ys))) out) (zeros (length out))

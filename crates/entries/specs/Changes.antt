@@ -11,7 +11,7 @@ use lib.Seq.{length-take-le, drop-cons, append-snoc}
 use borrow.Author.Tests.{ltb-true, ltb-false, leb-true, leb-false, eqb-true, eqb-false, lt-ltb, le-ltb, le-leb, lt-leb}
 use Rattle.lists.specs.Pick.{pick, both, both-true, clash}
 use Rattle.lists.specs.Passing.{passing, over, nonempty}
-use Rattle.lists.specs.Refusal.{unless, _orElse_}
+use Rattle.lists.specs.Refusal.{refusalBy, _orElse_}
 use Rattle.entries.specs.declared.Entry.{Entry}
 use Rattle.entries.specs.declared.Key.{Key}
 use Rattle.entries.specs.declared.Look.{Look}
@@ -24,10 +24,10 @@ use Rattle.entries.specs.Orders.{Lt, lt-of, of-lt, lt-trans, Cmp, below,
 use Rattle.entries.specs.Look.{scanOf, soundOf}
 use Rattle.entries.specs.Roll.{movedTo, rolled, inside}
 use Rattle.entries.specs.Plans.{placed, idleOf, insertionBy, deletionBy, insertionOf, deletionOf, outcomeOf}
-use Rattle.entries.specs.Catalogue.{before, holders, after, sound, inserted, insertNumber, insertOf, insertedList, removed, matches, deleteNumber, deleteOf, deletedList, changed, changedList, heldCob}
+use Rattle.entries.specs.Catalogue.{before, holders, after, sound, inserted, insertNumber, insertOf, insertedList, removed, matches, deleteNumber, deleteOf, deletedList, changed, changedList}
 use Rattle.entries.specs.Splits.{Split, new, old, split}
 use Rattle.entries.specs.Rolls.{rolled-up, rolled-down}
-use Rattle.entries.specs.Looks.{scan-n, scan-len, scan-sound, scan-at, scan-found, scan-held, heldOr, scan-placed}
+use Rattle.entries.specs.Looks.{heldCob, scan-n, scan-len, scan-sound, scan-at, scan-found, scan-held, heldOr, scan-placed}
 
 -- ---- the plan, of the numbers that the definitions speak of
 pub insertion-is : (r : Entry) (n : ℕ) (ys : List Entry) → insertionOf (scanOf (keyOf r) n 0 ys) r ≡ insertionBy n (length (before (keyOf r) (take n ys))) r (sound n ys) (nonempty (holders (keyOf r) (take n ys))) (ltb n (length ys))
@@ -80,8 +80,8 @@ grown-length r xs h f = by-split (split (keyOf r) xs h)
     by-split (new e p) = omega (arith, inserted-length r xs, ap length p, length-append (before (keyOf r) xs) (after (keyOf r) xs))
 
 outcome-at : (n at : ℕ) (r : Entry) (s f l : Bool) (zs : List Entry) → (s ≡ true → f ≡ true → length zs ≡ n) → (s ≡ true → f ≡ false → length zs ≡ n + 1)
-    → outcomeOf (insertionBy n at r s f l) ≡ changed (unless s 9 orElse unless (f || l) 10) n zs
-unfolding _orElse_
+    → outcomeOf (insertionBy n at r s f l) ≡ changed (refusalBy ((s, 9) ∷ (f || l, 10) ∷ [])) n zs
+unfolding refusalBy _orElse_
 outcome-at n at r true true l zs h₁ h₂ = ap {B = Changed} (λ (j : ℕ). record { refusal = 0; count = j }) (sym (h₁ refl refl))
 outcome-at n at r true false true zs h₁ h₂ = ap {B = Changed} (λ (j : ℕ). record { refusal = 0; count = j }) (sym (h₂ refl refl))
 outcome-at n at r true false false zs h₁ h₂ = refl
@@ -133,8 +133,8 @@ grown r n ys g f l = by-split (split (keyOf r) (take n ys) (g .rises))
         count = omega (arith, grown-length r (take n ys) (g .rises) f, g .count)
 
 list-at : (n at : ℕ) (r : Entry) (s f l : Bool) (zs ys : List Entry) → (s ≡ true → f ≡ true → rolled 1 false at r ys ≡ over zs ys) → (s ≡ true → f ≡ false → l ≡ true → rolled (n - at + 1) false at r ys ≡ over zs ys)
-    → rolled (insertionBy n at r s f l .count) (insertionBy n at r s f l .down) (insertionBy n at r s f l .from) (insertionBy n at r s f l .first) ys ≡ changedList (unless s 9 orElse unless (f || l) 10) zs ys
-unfolding rolled _orElse_
+    → rolled (insertionBy n at r s f l .count) (insertionBy n at r s f l .down) (insertionBy n at r s f l .from) (insertionBy n at r s f l .first) ys ≡ changedList (refusalBy ((s, 9) ∷ (f || l, 10) ∷ [])) zs ys
+unfolding rolled refusalBy _orElse_
 list-at n at r true true l zs ys h₁ h₂ = h₁ refl refl
 list-at n at r true false true zs ys h₁ h₂ = h₂ refl refl refl
 list-at n at r true false false zs ys h₁ h₂ = refl
@@ -192,8 +192,8 @@ pub deletion-inside : (r : Entry) (n : ℕ) (ys : List Entry) → inside (deleti
 deletion-inside r n ys = subst (λ (w : Plan). inside (w .down) (w .from) (w .count) (length ys)) (sym (deletion-is r n ys))
     (delete-inside-at n (length (before (keyOf r) (take n ys))) (length ys) r (sound n ys) (nonempty (matches r (take n ys))) (λ s. good n ys s .fits) (λ s m. omega (arith, gone r n ys s m .size)))
 
-delete-outcome-at : (n at : ℕ) (r : Entry) (s m : Bool) (zs : List Entry) → (s ≡ true → m ≡ true → length zs ≡ n - 1) → outcomeOf (deletionBy n at r s m) ≡ changed (unless s 9 orElse unless m 11) n zs
-unfolding _orElse_
+delete-outcome-at : (n at : ℕ) (r : Entry) (s m : Bool) (zs : List Entry) → (s ≡ true → m ≡ true → length zs ≡ n - 1) → outcomeOf (deletionBy n at r s m) ≡ changed (refusalBy ((s, 9) ∷ (m, 11) ∷ [])) n zs
+unfolding refusalBy _orElse_
 delete-outcome-at n at r true true zs h = ap {B = Changed} (λ (j : ℕ). record { refusal = 0; count = j }) (sym (h refl refl))
 delete-outcome-at n at r true false zs h = refl
 delete-outcome-at n at r false m zs h = refl
@@ -226,8 +226,8 @@ shrunk r n ys s g =
     size = omega (arith, g .size, length-append (ps ++ qs) (blank ∷ []), length-append ps qs)
 
 delete-list-at : (n at : ℕ) (r : Entry) (s m : Bool) (zs ys : List Entry) → (s ≡ true → m ≡ true → rolled (n - at) true (n - 1) blank ys ≡ over zs ys)
-    → rolled (deletionBy n at r s m .count) (deletionBy n at r s m .down) (deletionBy n at r s m .from) (deletionBy n at r s m .first) ys ≡ changedList (unless s 9 orElse unless m 11) zs ys
-unfolding rolled _orElse_
+    → rolled (deletionBy n at r s m .count) (deletionBy n at r s m .down) (deletionBy n at r s m .from) (deletionBy n at r s m .first) ys ≡ changedList (refusalBy ((s, 9) ∷ (m, 11) ∷ [])) zs ys
+unfolding rolled refusalBy _orElse_
 delete-list-at n at r true true zs ys h = h refl refl
 delete-list-at n at r true false zs ys h = refl
 delete-list-at n at r false m zs ys h = refl

@@ -8,8 +8,9 @@ use lib.Dec.{ltb, leb, eqb, eqb·suc-zero}
 use lib.ListN.{length, getD, take, drop, length-append}
 use lib.Seq.{take-append-seam, drop-append-seam}
 use borrow.Author.Tests.{le-leb, leb-true}
-use Rattle.lists.specs.Pick.{pick, both, both-true, both-hold, clash}
+use Rattle.lists.specs.Pick.{pick, both-true, both-hold}
 use Rattle.lists.specs.Passing.{passing-yes, passing-no, passing-append, passing-none, over}
+use Rattle.lists.specs.Refusal.{grant}
 use Rattle.entries.specs.declared.Entry.{Entry}
 use Rattle.entries.specs.declared.Key.{Key}
 use Rattle.entries.specs.declared.Found.{Found}
@@ -17,7 +18,8 @@ use Rattle.entries.specs.Blank.{blank}
 use Rattle.entries.specs.Key.{keyOf, keyLt, keyEq, rising, risingFrom}
 use Rattle.entries.specs.Orders.{Lt, lt-of, of-lt, lt-trans, lt-irrefl, lt-ne, gt-ne, eq-of, eq-refl, Cmp, below, equal, above, cmp, Le, same, less}
 use Rattle.entries.specs.Splits.{first-lt, rest-rises, cons-rises, Above, above-all, Split, new, old, split, rising-tail}
-use Rattle.entries.specs.Catalogue.{before, holders, after, sound, heldCob, lookupOf, inserted, insertNumber, insertOf, insertedList, removed, matches, deleteNumber, deleteOf, deletedList, changed, changedList}
+use Rattle.entries.specs.Looks.{heldCob, found-is}
+use Rattle.entries.specs.Catalogue.{before, holders, after, sound, foundBy, lookupOf, inserted, insertNumber, insertOf, insertedList, removed, matches, deleteNumber, deleteOf, deletedList, changed, changedList}
 
 -- ---- rising lists
 pub lower : (a b : Key) (xs : List Entry) → Lt a b → risingFrom b xs ≡ true → risingFrom a xs ≡ true
@@ -112,11 +114,8 @@ record Kept (m : ℕ) (zs ws : List Entry) : Type 0 where
 kept-over : (zs more ys : List Entry) → rising zs ≡ true → Kept (length zs) zs ((zs ++ more) ++ ys)
 kept-over zs more ys h = record { legal = over-sound zs more ys h; first = ap (take (length zs)) (append-assoc zs more ys) ∙ take-append-seam zs (more ++ ys) }
 
-accepts : {number : ℕ} → number ≡ 0 → eqb number 0 ≡ true
-accepts e = ap (λ (j : ℕ). eqb j 0) e
-
 insert-kept : (r : Entry) (n : ℕ) (ys : List Entry) → rising (take n ys) ≡ true → insertNumber r n ys ≡ 0 → Kept (insertOf r n ys .count) (inserted r (take n ys)) (insertedList r n ys)
-insert-kept r n ys h e = subst (λ (b : Bool). Kept (pick b (length zs) n) zs (pick b (over zs ys) ys)) (sym (accepts e)) plain
+insert-kept r n ys h e = subst (λ (m : ℕ). Kept (grant m (length zs) n) zs (grant m (over zs ys) ys)) (sym e) plain
   where
     zs : List Entry
     zs = inserted r (take n ys)
@@ -125,7 +124,7 @@ insert-kept r n ys h e = subst (λ (b : Bool). Kept (pick b (length zs) n) zs (p
     plain = record { legal = sound-by (length zs) (over zs ys) (omega (arith, length-append zs (drop (length zs) ys))) (ap rising (take-append-seam zs (drop (length zs) ys)) ∙ inserted-rises r (take n ys) h); first = take-append-seam zs (drop (length zs) ys) }
 
 delete-kept : (r : Entry) (n : ℕ) (ys : List Entry) → rising (take n ys) ≡ true → deleteNumber r n ys ≡ 0 → Kept (deleteOf r n ys .count) (removed r (take n ys)) (deletedList r n ys)
-delete-kept r n ys h e = subst (λ (b : Bool). Kept (pick b (length zs) n) zs (pick b (over (zs ++ blank ∷ []) ys) ys)) (sym (accepts e)) (kept-over zs (blank ∷ []) (drop (length (zs ++ blank ∷ [])) ys) (removed-rises r (take n ys) h))
+delete-kept r n ys h e = subst (λ (m : ℕ). Kept (grant m (length zs) n) zs (grant m (over (zs ++ blank ∷ []) ys) ys)) (sym e) (kept-over zs (blank ∷ []) (drop (length (zs ++ blank ∷ [])) ys) (removed-rises r (take n ys) h))
   where
     zs : List Entry
     zs = removed r (take n ys)
@@ -133,7 +132,7 @@ delete-kept r n ys h e = subst (λ (b : Bool). Kept (pick b (length zs) n) zs (p
 -- ---- a legal catalogue stays legal, whether the change is accepted or refused
 decided : (number n : ℕ) (xs zs ys : List Entry) → (number ≡ 0 → sound (changed number n xs .count) (changedList number zs ys) ≡ true) → sound n ys ≡ true → sound (changed number n xs .count) (changedList number zs ys) ≡ true
 decided zero n xs zs ys h s = h refl
-decided (suc m) n xs zs ys h s = subst (λ (b : Bool). sound (pick b (length xs) n) (pick b (over zs ys) ys) ≡ true) (sym (eqb·suc-zero m)) s
+decided (suc m) n xs zs ys h s = s
 
 pub insert-legal : (r : Entry) (n : ℕ) (ys : List Entry) → sound n ys ≡ true → sound (insertOf r n ys .count) (insertedList r n ys) ≡ true
 insert-legal r n ys s = decided (insertNumber r n ys) n (inserted r (take n ys)) (inserted r (take n ys)) ys (λ e. insert-kept r n ys (both-true (leb n (length ys)) (rising (take n ys)) s .1) e .legal) s
@@ -166,11 +165,11 @@ removed-same r xs = passing-append (λ x. keyEq (keyOf x) (keyOf r)) (before (ke
 removed-other : (j : Key) (r : Entry) (xs : List Entry) → keyEq (keyOf r) j ≡ false → rising xs ≡ true → holders j (removed r xs) ≡ holders j xs
 removed-other j r xs n h = passing-append (λ x. keyEq (keyOf x) j) (before (keyOf r) xs) (after (keyOf r) xs) ∙ sym (parts-other j (keyOf r) xs n h)
 
-kept-lookup : (j : Key) (m : ℕ) (zs ws : List Entry) → Kept m zs ws → lookupOf j m ws ≡ heldCob (holders j zs)
-kept-lookup j m zs ws t = ap (λ (b : Bool). pick b (heldCob (holders j (take m ws))) (record { refusal = 9; cob = 0 })) (t .legal) ∙ ap (λ (l : List Entry). heldCob (holders j l)) (t .first)
-
 sound-lookup : (j : Key) (n : ℕ) (ys : List Entry) → sound n ys ≡ true → lookupOf j n ys ≡ heldCob (holders j (take n ys))
-sound-lookup j n ys s = ap (λ (b : Bool). pick b (heldCob (holders j (take n ys))) (record { refusal = 9; cob = 0 })) s
+sound-lookup j n ys s = found-is (sound n ys) (holders j (take n ys)) ∙ ap (λ (b : Bool). pick b (heldCob (holders j (take n ys))) (foundBy 9 0)) s
+
+kept-lookup : (j : Key) (m : ℕ) (zs ws : List Entry) → Kept m zs ws → lookupOf j m ws ≡ heldCob (holders j zs)
+kept-lookup j m zs ws t = sound-lookup j m ws (t .legal) ∙ ap (λ (l : List Entry). heldCob (holders j l)) (t .first)
 
 module _ (r : Entry) (n : ℕ) (ys : List Entry) (s : sound n ys ≡ true) where
   rises : rising (take n ys) ≡ true

@@ -9,8 +9,9 @@ use lib.Dec.{ltb, leb}
 use lib.ListN.{length, getD, set, take, drop, replicate, length-append, length-take, length-drop, length-map, take-append-drop, List·getD-map}
 use lib.Seq.{length-take-le, take-suc, drop-cons, set-at, take-all, take-append-le, drop-append-seam, drop-length, getD-drop}
 use borrow.Author.Tests.{leb-true, leb-false}
-use Rattle.lists.specs.Pick.{pick, both-true}
+use Rattle.lists.specs.Pick.{both-true}
 use Rattle.lists.specs.Passing.{over, replicate-zeros}
+use Rattle.lists.specs.Refusal.{refusalBy, _orElse_, grant}
 use Rattle.lists.specs.Tabulate.{zeros}
 use Rattle.entries.specs.declared.Entry.{Entry}
 use Rattle.entries.specs.declared.Key.{Key}
@@ -22,7 +23,7 @@ use Rattle.entries.specs.Key.{keyOf, rising}
 use Rattle.entries.specs.Look.{scanOf, soundOf}
 use Rattle.entries.specs.Listed.{listed, wiped}
 use Rattle.entries.specs.Plans.{shownBy, shownOf, reportOf}
-use Rattle.entries.specs.Catalogue.{before, onward, sound, cobs, files, listingOf, listedOut}
+use Rattle.entries.specs.Catalogue.{before, onward, sound, cobs, files, pageBy, listingOf, listedOut}
 use Rattle.entries.specs.Splits.{Within, onward-within}
 use Rattle.entries.specs.Looks.{scan-sound, scan-at, scan-left, scan-more, scan-next}
 
@@ -80,7 +81,8 @@ left-le k n ys room = omega (arith, scan-left k n room ys)
 
 -- the report
 report-at : (at left room : ℕ) (more : Bool) (next count : ℕ) (s : Bool) → (s ≡ true → room - left ≡ count)
-    → reportOf (shownBy at left room more next s) ≡ pick s (record { refusal = 0; count = count; more = more; next = next }) (record { refusal = 9; count = 0; more = false; next = 0 })
+    → reportOf (shownBy at left room more next s) ≡ pageBy (refusalBy ((s, 9) ∷ [])) count more next
+unfolding refusalBy _orElse_
 report-at at left room more next count true h = ap {B = Page} (λ (j : ℕ). record { refusal = 0; count = j; more = more; next = next }) (h refl)
 report-at at left room more next count false h = refl
 
@@ -121,8 +123,8 @@ listing-inside k n ys room = subst (λ (w : Show). (w .from + w .count ≤ lengt
 abbrev pub output : Show → List Entry → List ℕ → List ℕ
 output w ys os = wiped (w .wiped) (listed (w .count) (w .from) ys os)
 
-output-at : (at left : ℕ) (more : Bool) (next : ℕ) (s : Bool) (ys : List Entry) (os zs : List ℕ) → (s ≡ true → listed (length os - left) at ys os ≡ zs) → output (shownBy at left (length os) more next s) ys os ≡ pick s zs (zeros (length os))
-unfolding listed
+output-at : (at left : ℕ) (more : Bool) (next : ℕ) (s : Bool) (ys : List Entry) (os zs : List ℕ) → (s ≡ true → listed (length os - left) at ys os ≡ zs) → output (shownBy at left (length os) more next s) ys os ≡ grant (refusalBy ((s, 9) ∷ [])) zs (zeros (length os))
+unfolding listed refusalBy _orElse_
 output-at at left more next true ys os zs h = h refl
 output-at at left more next false ys os zs h = ap (λ (t : List ℕ). replicate (length os) 0 ++ t) (drop-length os) ∙ append-nil (replicate (length os) 0) ∙ replicate-zeros (length os)
 

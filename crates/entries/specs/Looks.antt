@@ -10,13 +10,14 @@ use lib.ListN.{length, getD, take, length-take}
 use borrow.Author.Tests.{ltb-true, ltb-false, lt-ltb, le-ltb}
 use Rattle.lists.specs.Pick.{pick, both, clash}
 use Rattle.lists.specs.Passing.{passing, nonempty, nonempty-pos}
+use Rattle.lists.specs.Refusal.{refusalBy, _orElse_}
 use Rattle.entries.specs.declared.Entry.{Entry}
 use Rattle.entries.specs.declared.Key.{Key}
 use Rattle.entries.specs.declared.Look.{Look}
 use Rattle.entries.specs.declared.Found.{Found}
 use Rattle.entries.specs.Key.{keyOf, keyLt, keyEq, listable, rising, risingFrom}
 use Rattle.entries.specs.Look.{leastOf, firstOf, fewerOf, beyondOf, risesOf, countedOf, startOf, stepOf, lookOf, scanOf, soundOf}
-use Rattle.entries.specs.Catalogue.{before, holders, after, onward, sound, heldCob, files, lookupOf}
+use Rattle.entries.specs.Catalogue.{before, holders, after, onward, sound, cobOf, foundBy, files, lookupOf}
 use Rattle.entries.specs.Plans.{answerOf, placed}
 use Rattle.entries.specs.Orders.{lt-ne}
 
@@ -71,6 +72,17 @@ pub look-found : (x : Look) (xs : List Entry) → lookOf x xs .found ≡ (x .fou
 unfolding lookOf stepOf
 look-found x [] = none-found (x .found)
 look-found x (r ∷ rs) = look-found (stepOf x r) rs ∙ found-on (x .found) (keyEq (keyOf r) (x .key)) r (holders (x .key) rs)
+
+-- what a lookup answers of the records of its key, in an ordered catalogue
+abbrev pub heldCob : List Entry → Found
+heldCob [] = foundBy 11 0
+heldCob (r ∷ rs) = foundBy 0 (r .cob)
+
+pub found-is : (s : Bool) (xs : List Entry) → foundBy (refusalBy ((s, 9) ∷ (nonempty xs, 11) ∷ [])) (cobOf xs) ≡ pick s (heldCob xs) (foundBy 9 0)
+unfolding refusalBy _orElse_
+found-is true [] = refl
+found-is true (r ∷ rs) = refl
+found-is false xs = refl
 
 abbrev pub heldOr : Bool → ℕ → Found → Found
 heldOr a c f = pick a (record { refusal = 0; cob = c }) f
@@ -213,4 +225,7 @@ module _ (key : Key) (n room : ℕ) (ys : List Entry) where
   -- what a lookup makes of it is what document 01 says
   pub looked-up : answerOf (scanOf key n room ys) ≡ lookupOf key n ys
   unfolding answerOf
-  looked-up = ap (λ (b : Bool). pick b (heldOr (scanOf key n room ys .found) (scanOf key n room ys .cob) (heldCob [])) (record { refusal = 9; cob = 0 })) scan-sound ∙ ap (λ (f : Found). pick (sound n ys) f (record { refusal = 9; cob = 0 })) scan-held
+  looked-up =
+      ap (λ (b : Bool). pick b (heldOr (scanOf key n room ys .found) (scanOf key n room ys .cob) (heldCob [])) (foundBy 9 0)) scan-sound
+      ∙ ap (λ (f : Found). pick (sound n ys) f (foundBy 9 0)) scan-held
+      ∙ sym (found-is (sound n ys) (holders key (take n ys)))

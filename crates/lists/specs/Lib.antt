@@ -8,3 +8,4 @@ pub mod Digits
 pub mod Refusal
 pub mod Span
 pub mod Part
+pub mod Bijection

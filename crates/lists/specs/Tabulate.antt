@@ -46,3 +46,7 @@ module _ {A : Type 0} where
 -- n zeros
 abbrev pub zeros : ℕ → List ℕ
 zeros n = tabulate n (λ i. 0)
+
+-- entry t of a list of numbers
+abbrev pub at : List ℕ → ℕ → ℕ
+at l t = getD l t 0

@@ -1,0 +1,5 @@
+pub mod Gcd
+pub mod Layouts
+pub mod Refused
+pub mod Shapes
+pub mod Answers

@@ -1,0 +1,116 @@
+// The numbers of a layout.
+ghost use mathlib.Core.Path.{_≡_};
+ghost use Rattle.numbers.specs.Gcd.{gcd as gcdOf};
+ghost use Rattle.numbers.specs.Layouts.{Valid};
+ghost use Rattle.numbers.specs.Refused.{layoutRefusal};
+ghost use Rattle.numbers.specs.Answers.{Shaped, Numbered};
+
+// Document 01's six numbers: N data units and K parity units a group (with K spares), P targets,
+// U bytes a unit, T tiles, and the cookie that the permutations start from.
+pub struct Layout {
+    pub n: u64,
+    pub k: u64,
+    pub p: u64,
+    pub u: u64,
+    pub t: u64,
+    pub cookie: u64,
+}
+
+// W, B, L and C.
+pub struct Shape {
+    pub w: u64,
+    pub b: u64,
+    pub l: u64,
+    pub c: u64,
+}
+
+// All the numbers that follow from a layout.
+pub struct Numbers {
+    pub w: u64,
+    pub b: u64,
+    pub l: u64,
+    pub c: u64,
+    pub frames: u64,
+    pub groups: u64,
+    pub capacity: u64,
+    pub image: u64,
+}
+
+// The greatest common divisor, by Euclid's rule.
+pub fn gcd(a: u64, b: u64) -> u64
+    ensures { λ r. ⌜ r ≡ gcdOf a b ⌝ }
+{
+    if b == 0 { a } else { gcd(b, a % b) }
+}
+
+// 1 where a number is out of bounds, else 0. N and K are tested before W is worked out, so that
+// nothing wraps.
+pub fn refusal(y: Layout) -> u64
+    ensures { λ r. ⌜ r ≡ layoutRefusal y ⌝ }
+{
+    if y.n < 1 {
+        return 1;
+    }
+    if 16 < y.n {
+        return 1;
+    }
+    if 3 < y.k {
+        return 1;
+    }
+    if y.p < y.n + 2 * y.k {
+        return 1;
+    }
+    if 64 < y.p {
+        return 1;
+    }
+    if y.u < 1 {
+        return 1;
+    }
+    if 4096 < y.u {
+        return 1;
+    }
+    if y.t < 1 {
+        return 1;
+    }
+    if 65536 < y.t {
+        return 1;
+    }
+    0
+}
+
+pub fn shape_of(y: Layout) -> Shape
+    requires { ⌜ Valid y ⌝ }
+    ensures { λ r. ⌜ Shaped y r ⌝ }
+{
+    let w = y.n + 2 * y.k;
+    let b = w / gcd(w, y.p) * y.p;
+    Shape {
+        w,
+        b,
+        l: b / y.p,
+        c: b / w,
+    }
+}
+
+pub fn numbers_of(y: Layout) -> Numbers
+    requires { ⌜ Valid y ⌝ }
+    ensures { λ r. ⌜ Numbered y r ⌝ }
+{
+    let s = shape_of(y);
+    let l = s.l;
+    let c = s.c;
+    let n = y.n;
+    let p = y.p;
+    let u = y.u;
+    let t = y.t;
+    Numbers {
+        w: s.w,
+        b: s.b,
+        l,
+        c,
+        frames: l * t,
+        groups: c * t,
+        capacity: t * c * n * u,
+        image: p * l * t * u,
+    }
+}

@@ -1,0 +1,97 @@
+-- What the code is handed to work out a place or a unit, and that its arithmetic fits.
+use mathlib.Core.Path.{_≡_, sym, subst}
+use mathlib.Core.List.{List}
+use Prim.Native.Nat.{ℕ, _+_, _*_, _/_, _%_, _≤_, _<_}
+use native.Mathlib.Nat.{mul-le-mul, mod-lt, div-le-self}
+use native.Mathlib.Omega.{arith}
+use Rattle.lists.specs.Tabulate.{at}
+use Rattle.lists.specs.Digits.{div-below}
+use Rattle.numbers.specs.declared.Layout.{Layout}
+use Rattle.numbers.specs.declared.Shape.{Shape}
+use Rattle.numbers.specs.Layouts.{Valid, width, rows, groups, frames, allGroups}
+use Rattle.numbers.specs.Answers.{Shaped}
+use Rattle.tile.specs.Permutation.{permutationOf, inverseOf}
+use Rattle.place.specs.declared.Place.{Place}
+use Rattle.place.specs.PlaceLaws.{tiles}
+
+pub record Placing (y : Layout) (s : Shape) (to : List ℕ) (g u : ℕ) : Type 0 where
+  pub valid : Valid y
+  pub shape : Shaped y s
+  pub tile : to ≡ permutationOf (y .p) (y .cookie) (g / s .c)
+  pub group : g < allGroups y
+  pub unit : u < width y
+
+pub record Holding (y : Layout) (s : Shape) (from : List ℕ) (r t : ℕ) : Type 0 where
+  pub valid : Valid y
+  pub shape : Shaped y s
+  pub tile : from ≡ inverseOf (permutationOf (y .p) (y .cookie) (r / s .l))
+  pub frame : r < frames y
+  pub target : t < y .p
+
+-- the bounds of what stands on the way to a place
+pub record PlacingFits (y : Layout) (s : Shape) (to : List ℕ) (g u : ℕ) : Type 0 where
+  pub width-few : s .w ≤ 22
+  pub row : s .w * (g % s .c) ≤ 1408
+  pub frame : s .l * (g / s .c) ≤ 1441792
+  pub row-frame : (s .w * (g % s .c) + u) / y .p ≤ s .w * (g % s .c) + u
+  pub column : (s .w * (g % s .c) + u) % y .p < y .p
+  pub target : at to ((s .w * (g % s .c) + u) % y .p) < y .p
+
+pub placing-fits : (y : Layout) (s : Shape) (to : List ℕ) (g u : ℕ) → Placing y s to g u → PlacingFits y s to g u
+placing-fits y s to g u a =
+    let v = a .valid in
+    let z = a .shape in
+    let wide : s .w ≤ 22 = omega arith in
+    let row : g % s .c ≤ 64 = omega (arith, mod-lt g (z .c-some)) in
+    let tile : g / s .c ≤ 65536 = omega (arith, div-below g (s .c) (y .t) (z .c-some) (subst (λ (c : ℕ). g < c * y .t) (sym (z .c-is)) (a .group))) in
+    let column : (s .w * (g % s .c) + u) % y .p < y .p = mod-lt (s .w * (g % s .c) + u) (let h : 0 < y .p = omega arith in h) in
+    record {
+      width-few = wide;
+      row = omega (arith, mul-le-mul wide row);
+      frame = omega (arith, mul-le-mul (z .l-few) tile);
+      row-frame = div-le-self (s .w * (g % s .c) + u) (y .p);
+      column = column;
+      target = subst (λ (l : List ℕ). at l ((s .w * (g % s .c) + u) % y .p) < y .p) (sym (a .tile)) (tiles y v (g / s .c) .into ((s .w * (g % s .c) + u) % y .p) column);
+    }
+
+-- the same on the way to a unit
+pub record HoldingFits (y : Layout) (s : Shape) (from : List ℕ) (r t : ℕ) : Type 0 where
+  pub width-some : 0 < s .w
+  pub row : y .p * (r % s .l) ≤ 1408
+  pub column : at from t < y .p
+  pub group : s .c * (r / s .l) ≤ 4194304
+  pub row-group : (y .p * (r % s .l) + at from t) / s .w ≤ y .p * (r % s .l) + at from t
+
+pub holding-fits : (y : Layout) (s : Shape) (from : List ℕ) (r t : ℕ) → Holding y s from r t → HoldingFits y s from r t
+holding-fits y s from r t a =
+    let v = a .valid in
+    let z = a .shape in
+    let row : r % s .l ≤ 22 = omega (arith, mod-lt r (z .l-some)) in
+    let tile : r / s .l ≤ 65536 = omega (arith, div-below r (s .l) (y .t) (z .l-some) (subst (λ (l : ℕ). r < l * y .t) (sym (z .l-is)) (a .frame))) in
+    record {
+      width-some = omega arith;
+      row = omega (arith, mul-le-mul (v .few-targets) row);
+      column = subst (λ (l : List ℕ). at l t < y .p) (sym (a .tile)) (tiles y v (r / s .l) .from t (a .target));
+      group = omega (arith, mul-le-mul (z .c-few) tile);
+      row-group = div-le-self (y .p * (r % s .l) + at from t) (s .w);
+    }
+
+-- the same on the way to a byte of the image
+pub record SpotFits (y : Layout) (l : ℕ) (a : Place) : Type 0 where
+  pub frames : l * y .t ≤ 1441792
+  pub drive : l * y .t * y .u ≤ 5905580032
+  pub before : a .target * (l * y .t * y .u) ≤ 377957122048
+  pub within : a .frame * y .u ≤ 5905580032
+
+pub spot-fits : (y : Layout) → Valid y → (l : ℕ) (a : Place) → l ≤ 22 → a .target < y .p → a .frame < l * y .t → SpotFits y l a
+spot-fits y v l a hl ht hf =
+    let frames : l * y .t ≤ 1441792 = omega (arith, mul-le-mul hl (v .few-tiles)) in
+    let drive : l * y .t * y .u ≤ 5905580032 = omega (arith, mul-le-mul frames (v .few-bytes)) in
+    let target : a .target ≤ 64 = omega arith in
+    let frame : a .frame ≤ 1441792 = omega arith in
+    record {
+      frames = frames;
+      drive = drive;
+      before = omega (arith, mul-le-mul target drive);
+      within = omega (arith, mul-le-mul frame (v .few-bytes));
+    }

@@ -1,0 +1,50 @@
+-- The laws of units and places, for a layout.
+use mathlib.Core.Path.{_≡_}
+use Prim.Native.Nat.{ℕ, _+_, _*_, _≤_, _<_}
+use native.Mathlib.Nat.{le-refl}
+use native.Mathlib.Omega.{arith}
+use Rattle.lists.specs.Bijection.{Bijection}
+use Rattle.numbers.specs.declared.Layout.{Layout}
+use Rattle.numbers.specs.Layouts.{Valid, width, rows, groups, frames, allGroups}
+use Rattle.numbers.specs.Shapes.{width-groups-rows, rows-pos, groups-pos}
+use Rattle.tile.specs.Laws.{permutation-inverse}
+use Rattle.place.specs.Units.{Tiled}
+use Rattle.place.specs.UnitLaws as U
+use Rattle.place.specs.Load as L
+use Rattle.place.specs.Places.{widthsOf, targetsOf, columnsOf, placeOf, unitOf}
+
+module _ (y : Layout) (v : Valid y) where
+  pub tiled : Tiled (widthsOf y)
+  tiled = record { units = omega arith; enough = v .enough-targets; rows = rows-pos y v; groups = groups-pos y v; whole = width-groups-rows y v }
+
+  pub tiles : (tile : ℕ) → Bijection (y .p) (targetsOf y tile) (columnsOf y tile)
+  tiles tile = permutation-inverse (y .p) (y .cookie) tile (omega arith) (v .few-targets) (y .p) (le-refl (y .p)) (v .few-targets)
+
+  -- the two maps undo each other over the whole pool
+  pub there-and-back : (g u : ℕ) → u < width y → unitOf y (placeOf y g u .frame) (placeOf y g u .target) ≡ record { group = g; unit = u }
+  unfolding placeOf unitOf
+  there-and-back g u h = λ i. record { group = U.group-back (widthsOf y) tiled (targetsOf y) (columnsOf y) tiles g u h i; unit = U.unit-back (widthsOf y) tiled (targetsOf y) (columnsOf y) tiles g u h i }
+
+  pub back-and-there : (r t : ℕ) → t < y .p → placeOf y (unitOf y r t .group) (unitOf y r t .unit) ≡ record { frame = r; target = t }
+  unfolding placeOf unitOf
+  back-and-there r t h = λ i. record { frame = U.frame-back (widthsOf y) tiled (targetsOf y) (columnsOf y) tiles r t h i; target = U.target-back (widthsOf y) tiled (targetsOf y) (columnsOf y) tiles r t h i }
+
+  pub place-in : (g u : ℕ) → u < width y → g < allGroups y → (placeOf y g u .frame < frames y) × (placeOf y g u .target < y .p)
+  unfolding placeOf
+  place-in g u h k = (U.frame-lt (widthsOf y) tiled (y .t) g u h k, U.target-lt (widthsOf y) tiled (targetsOf y) (columnsOf y) tiles g u)
+
+  pub unit-in : (r t : ℕ) → t < y .p → r < frames y → (unitOf y r t .group < allGroups y) × (unitOf y r t .unit < width y)
+  unfolding unitOf
+  unit-in r t h k = (U.group-lt (widthsOf y) tiled (targetsOf y) (columnsOf y) tiles (y .t) r t h k, U.unit-lt (widthsOf y) tiled (targetsOf y) (columnsOf y) tiles r t)
+
+  -- no two units of a group share a target
+  pub apart : (g u u′ : ℕ) → u < width y → u′ < width y → placeOf y g u .target ≡ placeOf y g u′ .target → u ≡ u′
+  unfolding placeOf
+  apart = U.targets-apart (widthsOf y) tiled (targetsOf y) (columnsOf y) tiles
+
+  -- a whole tile gives every target L units; the loads of two targets differ by at most L
+  pub tile-load : (t : ℕ) → t < y .p → (k : ℕ) → L.load (widthsOf y) (targetsOf y) t (groups y * k) ≡ rows y * k
+  tile-load t h = L.load-tiles (widthsOf y) tiled (targetsOf y) (columnsOf y) tiles t h
+
+  pub load-near : (n t t′ : ℕ) → t < y .p → t′ < y .p → L.load (widthsOf y) (targetsOf y) t n ≤ L.load (widthsOf y) (targetsOf y) t′ n + rows y
+  load-near = L.loads-near (widthsOf y) tiled (targetsOf y) (columnsOf y) tiles

@@ -1,0 +1,26 @@
+-- "Places" of a layout: each tile's permutation is the generator's.
+use Prim.Native.Nat.{ℕ}
+use Rattle.lists.specs.Tabulate.{at}
+use Rattle.numbers.specs.declared.Layout.{Layout}
+use Rattle.numbers.specs.Layouts.{width, rows, groups}
+use Rattle.tile.specs.Permutation.{permutationOf, inverseOf}
+use Rattle.place.specs.declared.Place.{Place}
+use Rattle.place.specs.declared.Unit.{Unit}
+use Rattle.place.specs.Units.{Widths, frameOf, targetOf, groupAt, unitAt}
+
+abbrev pub widthsOf : Layout → Widths
+widthsOf y = record { w = width y; p = y .p; l = rows y; c = groups y }
+
+-- the target of each column of a tile, and the column of each target
+abbrev pub targetsOf : Layout → ℕ → ℕ → ℕ
+targetsOf y tile column = at (permutationOf (y .p) (y .cookie) tile) column
+
+abbrev pub columnsOf : Layout → ℕ → ℕ → ℕ
+columnsOf y tile target = at (inverseOf (permutationOf (y .p) (y .cookie) tile)) target
+
+-- the place of unit u of group g, and the unit in frame r of target t
+unfoldable pub placeOf : Layout → ℕ → ℕ → Place
+placeOf y g u = record { frame = frameOf (widthsOf y) g u; target = targetOf (widthsOf y) (targetsOf y) g u }
+
+unfoldable pub unitOf : Layout → ℕ → ℕ → Unit
+unitOf y r t = record { group = groupAt (widthsOf y) (columnsOf y) r t; unit = unitAt (widthsOf y) (columnsOf y) r t }

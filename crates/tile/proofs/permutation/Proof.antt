@@ -1,0 +1,87 @@
+-- `tile::permutation` meets its contract. What is left to do, done to what stands, is the answer.
+use mathlib.Core.Path.{_≡_, refl, sym, ap, _∙_, subst}
+use Prim.Native.Nat.{ℕ, _+_, _-_, _≤_, _<_}
+use native.Mathlib.Omega.{arith}
+use borrow.Author.Needs.{needs}
+use Rattle.tile.specs.Generator.{startOf, nextOf, drawOf}
+use Rattle.tile.specs.Permutation.{own, exchange, shuffleOf, permutationOf}
+use Rattle.tile.specs.Laws.{shuffle-step}
+use Rattle.tile.proofs.permutation.Statement.{statement}
+use Rattle.tile.proofs.permutation.Tie as tie
+
+abbrev Inv-loop : tie.InvT-loop
+Inv-loop p cookie tile a₀ g₀ i₀ a g i = (i < 64) × (shuffleOf i (g .state) a ≡ permutationOf p cookie tile)
+
+abbrev μ-loop : tie.MeasureT-loop
+μ-loop p cookie tile a₀ g₀ i₀ a g i = i
+
+own-indices-requires : tie.Need-own-indices-requires Inv-loop μ-loop
+own-indices-requires c κs = search needs
+
+start-requires : tie.Need-start-requires Inv-loop μ-loop
+start-requires c κs = search needs
+
+sub-i : tie.Need-sub-i Inv-loop μ-loop
+sub-i c = search needs
+
+loop-holds : tie.Need-loop-holds Inv-loop μ-loop
+unfolding permutationOf
+loop-holds c = (
+  search needs,
+  ap (λ (s : ℕ). shuffleOf (c .before .before .args .p - 1) s (c .before .own-indices .result)) (c .start .ensures)
+      ∙ ap (shuffleOf (c .before .before .args .p - 1) (startOf (c .before .before .args .cookie) (c .before .before .args .tile))) (c .before .own-indices .ensures),
+)
+
+advance-requires : tie.Need-advance-requires Inv-loop μ-loop
+advance-requires c κs = search needs
+
+draw-requires : tie.Need-draw-requires Inv-loop μ-loop
+draw-requires c κs = search needs
+
+exchanged-requires : tie.Need-exchanged-requires Inv-loop μ-loop
+exchanged-requires c κs = search needs
+
+sub-i-2 : tie.Need-sub-i-2 Inv-loop μ-loop
+sub-i-2 c = search needs
+
+loop-less : tie.Need-loop-less Inv-loop μ-loop
+loop-less c = search needs
+
+loop-again : tie.Need-loop-again Inv-loop μ-loop
+loop-again c =
+    let s = c .before .before .before .before .loop .g .state in
+    let i = c .before .before .before .before .loop .i in
+    let a = c .before .before .before .before .loop .a in
+    let e : c .before .before .advance .result .state ≡ nextOf s = c .before .before .advance .ensures in
+    let d : c .before .draw .result ≡ drawOf (nextOf s) i = c .before .draw .ensures .0 ∙ ap (λ (x : ℕ). drawOf x i) e in (
+      search needs,
+      ap (shuffleOf (i - 1) (c .before .before .advance .result .state)) (c .exchanged .ensures)
+          ∙ ap (λ (x : ℕ). shuffleOf (i - 1) x (exchange a i (c .before .draw .result))) e
+          ∙ ap (λ (j : ℕ). shuffleOf (i - 1) (nextOf s) (exchange a i j)) d
+          ∙ sym (shuffle-step i s a (c .before .before .before .loop-test .taken))
+          ∙ c .before .before .before .before .loop .inv .1,
+    )
+
+returns : tie.Need-returns Inv-loop μ-loop
+unfolding shuffleOf
+returns c =
+    let z : c .before .loop .i ≡ 0 = omega arith in
+    sym (ap (λ (k : ℕ). shuffleOf k (c .before .loop .g .state) (c .before .loop .a)) z) ∙ c .before .loop .inv .1
+
+pub permutation-spec : {M : Type 1} → statement M
+permutation-spec =
+    tie.close
+    (tie.spec
+    Inv-loop
+    μ-loop
+    own-indices-requires
+    start-requires
+    sub-i
+    loop-holds
+    advance-requires
+    draw-requires
+    exchanged-requires
+    sub-i-2
+    loop-less
+    loop-again
+    returns)

@@ -1,0 +1,4 @@
+pub mod Generator
+pub mod Permutation
+pub mod Laws
+pub mod Stores
