@@ -121,3 +121,10 @@ pub refusal-none : (t : List (Bool × ℕ)) → Passes t → refusalBy t ≡ 0
 unfolding refusalBy
 refusal-none [] p = refl
 refusal-none (x ∷ xs) p = step-passes (x .0) (x .1) (refusalBy xs) (p .0) ∙ refusal-none xs (p .1)
+
+-- what a call that found the number n answers: refused with it, or accepted
+pub refused-answer : {A : Type 0} (answer : ℕ → A) (good : A) {n m : ℕ} → n ≡ m → (n ≡ 0 → ⊥) → answer n ≡ grant m good (answer m)
+refused-answer answer good {n} {m} e f = ap answer e ∙ sym (grant-no m good (answer m) (λ (z : m ≡ 0). f (e ∙ z)))
+
+pub accepted-answer : {A : Type 0} (good bad : A) {n m : ℕ} → n ≡ m → n ≡ 0 → good ≡ grant m good bad
+accepted-answer good bad {n} {m} e z = sym (grant-yes m good bad (sym e ∙ z))

@@ -1,12 +1,13 @@
 -- Refusal number 1: "a layout number outside the bounds above".
 use mathlib.Core.Path.{_≡_, refl, sym, ap, _∙_}
+use mathlib.Core.Logic.{⊎-elim}
 use mathlib.Core.Bool.{Bool, true, false}
 use mathlib.Core.List.{List, [], _∷_}
 use Prim.Native.Nat.{ℕ, _≤_}
 use native.Mathlib.Omega.{arith}
 use lib.Dec.{leb}
 use borrow.Author.Tests.{leb-true, le-leb}
-use Rattle.lists.specs.Pick.{both, both-true, both-hold, not-both-ways}
+use Rattle.lists.specs.Pick.{both, both-true, both-hold, not-both-ways, either-way}
 use Rattle.lists.specs.Refusal.{_orElse_, refusalBy, refusal-none, refusal-lowest}
 use Rattle.numbers.specs.Layouts.{Valid, width}
 use Rattle.numbers.specs.declared.Layout.{Layout}
@@ -64,3 +65,15 @@ refuses y f = simp (valid-false y f)
 pub accepted : (y : Layout) → layoutRefusal y ≡ 0 → Valid y
 unfolding layoutRefusal
 accepted y e = valid-of y (refusal-lowest 1 ((validb y, 1) ∷ []) (omega arith) refl .none e .0)
+
+-- ---- a call's table begins with the layout's test
+
+pub bad-layout : (y : Layout) (rest : List (Bool × ℕ)) {n : ℕ} → n ≡ layoutRefusal y → (n ≡ 0 → ⊥) → n ≡ refusalBy ((validb y, 1) ∷ rest)
+unfolding layoutRefusal refusalBy _orElse_
+bad-layout y rest e f =
+    ⊎-elim (λ (t : validb y ≡ true). absurd (f (e ∙ ap (λ (b : Bool). refusalBy ((b, 1) ∷ [])) t)))
+    (λ (t : validb y ≡ false). e ∙ ap (λ (b : Bool). refusalBy ((b, 1) ∷ [])) t ∙ sym (ap (λ (b : Bool). refusalBy ((b, 1) ∷ rest)) t))
+    (either-way (validb y))
+
+pub good-layout : (y : Layout) {n : ℕ} → n ≡ layoutRefusal y → n ≡ 0 → Valid y
+good-layout y e z = accepted y (sym e ∙ z)

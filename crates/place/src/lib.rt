@@ -55,7 +55,7 @@ pub fn unit_in(y: Layout, s: Shape, from: &[u8; 64], r: u64, t: u64) -> Unit
 }
 
 pub fn place_of(y: Layout, g: u64, u: u64) -> Place
-    requires { ⌜ Valid y ⌝ ∗ ⌜ g < allGroups y ⌝ ∗ ⌜ u < width y ⌝ }
+    requires { ⌜ Valid y × (g < allGroups y) × (u < width y) ⌝ }
     ensures { λ r. ⌜ r ≡ placeOf y g u ⌝ }
 {
     let s = numbers::shape_of(y);
@@ -64,7 +64,7 @@ pub fn place_of(y: Layout, g: u64, u: u64) -> Place
 }
 
 pub fn unit_of(y: Layout, r: u64, t: u64) -> Unit
-    requires { ⌜ Valid y ⌝ ∗ ⌜ r < frames y ⌝ ∗ ⌜ t < y .p ⌝ }
+    requires { ⌜ Valid y × (r < frames y) × (t < y .p) ⌝ }
     ensures { λ q. ⌜ q ≡ unitOf y r t ⌝ }
 {
     let s = numbers::shape_of(y);
@@ -74,7 +74,7 @@ pub fn unit_of(y: Layout, r: u64, t: u64) -> Unit
 
 // The byte of the image that is byte o of a place.
 pub fn spot_of(y: Layout, a: Place, o: u64) -> u64
-    requires { ⌜ Valid y ⌝ ∗ ⌜ a .target < y .p ⌝ ∗ ⌜ a .frame < frames y ⌝ ∗ ⌜ o < y .u ⌝ }
+    requires { ⌜ Valid y × (a .target < y .p) × (a .frame < frames y) × (o < y .u) ⌝ }
     ensures { λ r. ⌜ (r ≡ spotOf y a o) × (r < imageLength y) ⌝ }
 {
     let s = numbers::shape_of(y);

@@ -15,8 +15,8 @@ shape-of-requires c κs = search needs
 
 fit : (c : tie.After-shape-of) → SpotFits (c .before .args .y) (c .shape-of .result .l) (c .before .args .a)
 fit c =
-    spot-fits (c .before .args .y) (c .before .pre .0) (c .shape-of .result .l) (c .before .args .a) (c .shape-of .ensures .l-few) (c .before .pre .1 .0)
-    (subst (λ (l : ℕ). c .before .args .a .frame < l * c .before .args .y .t) (sym (c .shape-of .ensures .l-is)) (c .before .pre .1 .1 .0))
+    spot-fits (c .before .args .y) (c .before .pre .0) (c .shape-of .result .l) (c .before .args .a) (c .shape-of .ensures .l-few) (c .before .pre .1)
+    (subst (λ (l : ℕ). c .before .args .a .frame < l * c .before .args .y .t) (sym (c .shape-of .ensures .l-is)) (c .before .pre .2))
 
 mul-result : tie.Need-mul-result
 mul-result c = omega (arith, fit c)
@@ -44,7 +44,7 @@ returns c =
     let o = c .before .args .o in
     let e : a .target * (c .shape-of .result .l * y .t * y .u) + a .frame * y .u + o ≡ spotOf y a o =
     ap (λ (l : ℕ). a .target * (l * y .t * y .u) + a .frame * y .u + o) (c .shape-of .ensures .l-is) in
-    (e, subst⁻¹ (λ (x : ℕ). x < imageLength y) e (spot-lt y (c .before .pre .0) a o (c .before .pre .1 .0) (c .before .pre .1 .1 .0) (c .before .pre .1 .1 .1)))
+    (e, subst⁻¹ (λ (x : ℕ). x < imageLength y) e (spot-lt y (c .before .pre .0) a o (c .before .pre .1) (c .before .pre .2) (c .before .pre .3)))
 
 pub spot-of-spec : {M : Type 1} → statement M
 spot-of-spec =

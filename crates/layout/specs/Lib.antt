@@ -1,0 +1,6 @@
+pub mod Measure
+pub mod Tiles
+pub mod Places
+pub mod Offsets
+pub mod Walk
+pub mod Asked
