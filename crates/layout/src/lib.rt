@@ -144,8 +144,9 @@ pub fn find_place(y: Layout, group: u64, unit: u64) -> Placed
             begins: 0,
         };
     }
-    let at = place::place_of(y, group, unit);
-    let begins = place::spot_of(y, at, 0);
+    let s = numbers::shape_of(y);
+    let at = place::place_of(y, s, group, unit);
+    let begins = place::spot_of(y, s, at, 0);
     Placed {
         refusal: 0,
         frame: at.frame,
@@ -191,7 +192,8 @@ pub fn find_unit(y: Layout, frame: u64, target: u64) -> Held
             unit: 0,
         };
     }
-    let held = place::unit_of(y, frame, target);
+    let s = numbers::shape_of(y);
+    let held = place::unit_of(y, s, frame, target);
     Held {
         refusal: 0,
         group: held.group,
@@ -238,14 +240,15 @@ pub fn map_offset(y: Layout, offset: u64) -> Mapped
             image: 0,
         };
     }
+    let s = numbers::shape_of(y);
     let n = y.n;
     let u = y.u;
     let data = n * u;
     let group = offset / data;
     let unit = offset % data / u;
     let byte = offset % data % u;
-    let at = place::place_of(y, group, unit);
-    let image = place::spot_of(y, at, byte);
+    let at = place::place_of(y, s, group, unit);
+    let image = place::spot_of(y, s, at, byte);
     Mapped {
         refusal: 0,
         group,
@@ -305,7 +308,8 @@ impl Cursor {
         if frames <= frame {
             return Step::Done(self);
         }
-        let unit = place::unit_of(y, frame, target);
+        let s = numbers::shape_of(y);
+        let unit = place::unit_of(y, s, frame, target);
         Step::At(
             unit,
             Cursor {

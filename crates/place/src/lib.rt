@@ -4,6 +4,7 @@ use numbers::Shape;
 ghost use mathlib.Core.Path.{_≡_};
 ghost use Prim.Native.Nat.{_<_};
 ghost use Rattle.numbers.specs.Layouts.{Valid, width, frames, allGroups, imageLength};
+ghost use Rattle.numbers.specs.Answers.{Shaped};
 ghost use Rattle.place.specs.Places.{placeOf, unitOf};
 ghost use Rattle.place.specs.Bytes.{spotOf};
 ghost use Rattle.place.specs.Asked.{Placing, Holding};
@@ -54,30 +55,28 @@ pub fn unit_in(y: Layout, s: Shape, from: &[u8; 64], r: u64, t: u64) -> Unit
     }
 }
 
-pub fn place_of(y: Layout, g: u64, u: u64) -> Place
-    requires { ⌜ Valid y × (g < allGroups y) × (u < width y) ⌝ }
+// The same, working out the permutation too.
+pub fn place_of(y: Layout, s: Shape, g: u64, u: u64) -> Place
+    requires { ⌜ Valid y × Shaped y s × (g < allGroups y) × (u < width y) ⌝ }
     ensures { λ r. ⌜ r ≡ placeOf y g u ⌝ }
 {
-    let s = numbers::shape_of(y);
     let to = tile::permutation(y.p, y.cookie, g / s.c);
     place_in(y, s, &to, g, u)
 }
 
-pub fn unit_of(y: Layout, r: u64, t: u64) -> Unit
-    requires { ⌜ Valid y × (r < frames y) × (t < y .p) ⌝ }
+pub fn unit_of(y: Layout, s: Shape, r: u64, t: u64) -> Unit
+    requires { ⌜ Valid y × Shaped y s × (r < frames y) × (t < y .p) ⌝ }
     ensures { λ q. ⌜ q ≡ unitOf y r t ⌝ }
 {
-    let s = numbers::shape_of(y);
     let from = tile::inverse(y.p, y.cookie, r / s.l);
     unit_in(y, s, &from, r, t)
 }
 
 // The byte of the image that is byte o of a place.
-pub fn spot_of(y: Layout, a: Place, o: u64) -> u64
-    requires { ⌜ Valid y × (a .target < y .p) × (a .frame < frames y) × (o < y .u) ⌝ }
+pub fn spot_of(y: Layout, s: Shape, a: Place, o: u64) -> u64
+    requires { ⌜ Valid y × Shaped y s × (a .target < y .p) × (a .frame < frames y) × (o < y .u) ⌝ }
     ensures { λ r. ⌜ (r ≡ spotOf y a o) × (r < imageLength y) ⌝ }
 {
-    let s = numbers::shape_of(y);
     let l = s.l;
     let t = y.t;
     let u = y.u;

@@ -10,13 +10,10 @@ use borrow.Author.Needs.{needs}
 use Rattle.place.proofs.spot_of.Statement.{statement}
 use Rattle.place.proofs.spot_of.Tie as tie
 
-shape-of-requires : tie.Need-shape-of-requires
-shape-of-requires c κs = search needs
-
-fit : (c : tie.After-shape-of) → SpotFits (c .before .args .y) (c .shape-of .result .l) (c .before .args .a)
+fit : (c : tie.Start) → SpotFits (c .args .y) (c .args .s .l) (c .args .a)
 fit c =
-    spot-fits (c .before .args .y) (c .before .pre .0) (c .shape-of .result .l) (c .before .args .a) (c .shape-of .ensures .l-few) (c .before .pre .1)
-    (subst (λ (l : ℕ). c .before .args .a .frame < l * c .before .args .y .t) (sym (c .shape-of .ensures .l-is)) (c .before .pre .2))
+    spot-fits (c .args .y) (c .pre .0) (c .args .s .l) (c .args .a) (c .pre .1 .l-few) (c .pre .2)
+    (subst (λ (l : ℕ). c .args .a .frame < l * c .args .y .t) (sym (c .pre .1 .l-is)) (c .pre .3))
 
 mul-result : tie.Need-mul-result
 mul-result c = omega (arith, fit c)
@@ -39,18 +36,17 @@ add-result-2 c = omega (arith, fit c)
 returns : tie.Need-returns
 unfolding spotOf
 returns c =
-    let y = c .before .args .y in
-    let a = c .before .args .a in
-    let o = c .before .args .o in
-    let e : a .target * (c .shape-of .result .l * y .t * y .u) + a .frame * y .u + o ≡ spotOf y a o =
-    ap (λ (l : ℕ). a .target * (l * y .t * y .u) + a .frame * y .u + o) (c .shape-of .ensures .l-is) in
-    (e, subst⁻¹ (λ (x : ℕ). x < imageLength y) e (spot-lt y (c .before .pre .0) a o (c .before .pre .1) (c .before .pre .2) (c .before .pre .3)))
+    let y = c .args .y in
+    let a = c .args .a in
+    let o = c .args .o in
+    let e : a .target * (c .args .s .l * y .t * y .u) + a .frame * y .u + o ≡ spotOf y a o =
+    ap (λ (l : ℕ). a .target * (l * y .t * y .u) + a .frame * y .u + o) (c .pre .1 .l-is) in
+    (e, subst⁻¹ (λ (x : ℕ). x < imageLength y) e (spot-lt y (c .pre .0) a o (c .pre .2) (c .pre .3) (c .pre .4)))
 
 pub spot-of-spec : {M : Type 1} → statement M
 spot-of-spec =
     tie.close
     (tie.spec
-    shape-of-requires
     mul-result
     mul-result-2
     mul-result-3

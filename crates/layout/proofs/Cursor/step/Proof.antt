@@ -38,25 +38,28 @@ returns-2 c =
     sym (pick-false (ltb (w .frame) (frames y)) _ _ (le-ltb _ _ past))
     ∙ accepted-answer _ _ (c .before .before .before .walk-refusal .ensures) (c .before .before .if1 .left)
 
+shape-of-requires : tie.Need-shape-of-requires
+shape-of-requires c κs = asked (c .before .before) .0
+
 unit-of-requires : tie.Need-unit-of-requires
 unit-of-requires c κs =
-    let a = asked (c .before .before) in
-    let y = c .before .before .before .before .args .y in
-    let h : c .before .before .before .before .args .self .frame < frames y = omega arith in
-    (a .0, h, a .1)
+    let a = asked (c .before .before .before) in
+    let y = c .before .before .before .before .before .args .y in
+    let h : c .before .before .before .before .before .args .self .frame < frames y = omega arith in
+    (a .0, c .shape-of .ensures, h, a .1)
 
-add-t10 : tie.Need-add-t10
-add-t10 c = search needs
+add-t11 : tie.Need-add-t11
+add-t11 c = search needs
 
 returns-3 : tie.Need-returns-3
 unfolding stepOf
 returns-3 c =
-    let y = c .before .before .before .before .before .args .y in
-    let w = c .before .before .before .before .before .args .self in
+    let y = c .before .before .before .before .before .before .args .y in
+    let w = c .before .before .before .before .before .before .args .self in
     let left : w .frame < frames y = omega arith in
     ap (λ (u : Unit). At u (record { target = w .target; frame = w .frame + 1 })) (c .unit-of .ensures)
     ∙ sym (pick-true (ltb (w .frame) (frames y)) _ _ (lt-ltb _ _ left))
-    ∙ accepted-answer _ _ (c .before .before .before .before .walk-refusal .ensures) (c .before .before .before .if1 .left)
+    ∙ accepted-answer _ _ (c .before .before .before .before .before .walk-refusal .ensures) (c .before .before .before .before .if1 .left)
 
 pub step-spec : {M : Type 1} → statement M
 step-spec =
@@ -66,6 +69,7 @@ step-spec =
     returns
     numbers-of-requires
     returns-2
+    shape-of-requires
     unit-of-requires
-    add-t10
+    add-t11
     returns-3)

@@ -1,0 +1,55 @@
+//! The expected output of every program of the project, one module each.
+//! oracle/README.md states the formats and the inputs.
+
+pub mod catalogue_runs;
+pub mod codes;
+pub mod examples;
+pub mod hex_pools;
+pub mod layouts;
+pub mod pool_runs;
+pub mod products;
+
+/// Writes one formatted line into a string.
+macro_rules! line {
+    ($out:expr, $($arg:tt)*) => {{
+        use std::fmt::Write;
+        writeln!($out, $($arg)*).expect("writing to a string")
+    }};
+}
+pub(crate) use line;
+
+/// The programs by name.
+pub const NAMES: [&str; 7] = [
+    "examples",
+    "layouts",
+    "products",
+    "codes",
+    "catalogue_runs",
+    "hex_pools",
+    "pool_runs",
+];
+
+/// The expected output of the program of this name.
+pub fn expected(name: &str) -> Option<String> {
+    match name {
+        "examples" => Some(examples::output()),
+        "layouts" => Some(layouts::output()),
+        "products" => Some(products::output()),
+        "codes" => Some(codes::output()),
+        "catalogue_runs" => Some(catalogue_runs::output()),
+        "hex_pools" => Some(hex_pools::output()),
+        "pool_runs" => Some(pool_runs::output()),
+        _ => None,
+    }
+}
+
+/// Numbers in decimal, separated by one space.
+pub(crate) fn spaced(numbers: &[u64]) -> String {
+    let words: Vec<String> = numbers.iter().map(u64::to_string).collect();
+    words.join(" ")
+}
+
+/// Bytes as two lower-case hex digits each.
+pub(crate) fn hex(bytes: &[u8]) -> String {
+    bytes.iter().map(|byte| format!("{byte:02x}")).collect()
+}

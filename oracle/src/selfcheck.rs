@@ -1,0 +1,191 @@
+//! Document 01's checked examples, starred or not, as checks of this library.
+
+use crate::field::multiply;
+use crate::group::{coefficient, encode};
+use crate::hexline::hex_line;
+use crate::layout::{layout, range_refusal, Layout};
+use crate::permutation::{advance, permutation, start};
+use crate::place::{file_byte, place};
+use crate::pool::{fail, homes, read, repair, unit_targets, write, Record};
+
+/// One example: the words of document 01 and whether this library agrees.
+pub type Check = (&'static str, fn() -> bool);
+
+/// All of them.
+pub const CHECKS: [Check; 18] = [
+    ("N=4 K=2 P=20: W=8, B=40, L=2, C=5", wide_layout),
+    ("N=1 K=0 P=1: L=1, C=1", least_layout),
+    ("N=16 K=3: P=22 accepted, P=21 refused 1", tight_layout),
+    ("Cookie 0, tile 0: P=3 gives 1,2,0", three_targets),
+    ("Cookie 0, tile 0: P=4 gives 2,1,3,0", four_targets),
+    ("First three states", three_states),
+    ("N=1 K=1 P=4 U=4 T=1 cookie 0: L=3, C=4", example_layout),
+    ("places of groups 0 to 3", example_places),
+    (
+        "Offset 9 is group 2, unit 0, byte 1, image byte 41",
+        offset_nine,
+    ),
+    (
+        "Offset 16 with length 0 is accepted, with length 1 refused 4",
+        offset_sixteen,
+    ),
+    ("Failing target 3 makes two contents missing", failing_three),
+    ("new homes (2,2) and (2,0)", homes_of_failing_three),
+    ("2·142 = 1, 2·128 = 29", two_products),
+    ("N=2 K=2: a(1,1)=232", one_coefficient),
+    ("N=2 K=2: data 0,2 give parity 2,205", two_parities),
+    (
+        "list [a,d] or [d,a] puts the data on e; [e,a] puts it on d",
+        spare_choices,
+    ),
+    ("the three lines of the pool that holds 41 42", three_lines),
+    (
+        "dividing by the spares too puts offset 9 on group 0, unit 2",
+        slip,
+    ),
+];
+
+/// The names of the examples that fail.
+pub fn failures() -> Vec<&'static str> {
+    let failing = CHECKS.iter().filter(|(_, check)| !check());
+    failing.map(|(name, _)| *name).collect()
+}
+
+fn example() -> Layout {
+    layout(1, 1, 4, 4, 1, 0)
+}
+
+fn wide_layout() -> bool {
+    let d = layout(4, 2, 20, 1, 1, 0).derived();
+    (d.w, d.b, d.l, d.c) == (8, 40, 2, 5)
+}
+
+fn least_layout() -> bool {
+    let d = layout(1, 0, 1, 1, 1, 0).derived();
+    (d.l, d.c) == (1, 1)
+}
+
+fn tight_layout() -> bool {
+    let refusal = |p| layout(16, 3, p, 1, 1, 0).refusal();
+    (refusal(22), refusal(21)) == (0, 1)
+}
+
+fn three_targets() -> bool {
+    let (refusal, entries) = permutation(&layout(1, 1, 3, 1, 1, 0), 0);
+    refusal == 0 && entries[..4] == [1, 2, 0, 3]
+}
+
+fn four_targets() -> bool {
+    let (refusal, entries) = permutation(&example(), 0);
+    refusal == 0 && entries[..5] == [2, 1, 3, 0, 4]
+}
+
+fn three_states() -> bool {
+    let first = advance(start(0, 0));
+    let second = advance(first);
+    [first, second, advance(second)]
+        == [
+            1_442_695_040_888_963_407,
+            1_876_011_003_808_476_466,
+            11_166_244_414_315_200_793,
+        ]
+}
+
+fn example_layout() -> bool {
+    let d = example().derived();
+    (d.l, d.c, d.capacity) == (3, 4, 16)
+}
+
+fn example_places() -> bool {
+    let wanted = [
+        [(0, 2), (0, 1), (0, 3)],
+        [(0, 0), (1, 2), (1, 1)],
+        [(1, 3), (1, 0), (2, 2)],
+        [(2, 1), (2, 3), (2, 0)],
+    ];
+    let lies = |group: usize, unit: usize| {
+        let at = place(&example(), group as u64, unit as u64).1;
+        (at.frame, at.target) == wanted[group][unit]
+    };
+    (0..4).all(|group| (0..3).all(|unit| lies(group, unit)))
+}
+
+fn offset_nine() -> bool {
+    let (refusal, at) = file_byte(&example(), 9);
+    (refusal, at.group, at.unit, at.byte, at.image) == (0, 2, 0, 1, 41)
+}
+
+fn offset_sixteen() -> bool {
+    let shape = example();
+    let (image, record) = ([0; 48], Record::default());
+    let ranges = (range_refusal(&shape, 16, 0), range_refusal(&shape, 16, 1));
+    let reads = (
+        read(&shape, &record, &image, 16, &mut []),
+        read(&shape, &record, &image, 16, &mut [9]),
+    );
+    ranges == (0, 4) && reads == (0, 4)
+}
+
+fn failing_three() -> bool {
+    let shape = example();
+    let mut image = [0; 48];
+    let (refusal, record) = fail(&shape, &Record::default(), &image, 3);
+    let (repaired, after, missing) = repair(&shape, &record, &mut image);
+    (refusal, repaired, missing, after.k, after.q) == (0, 0, 2, 1, 1)
+}
+
+fn homes_of_failing_three() -> bool {
+    let shape = example();
+    let home = |group, content: usize| {
+        let unit = homes(2, &unit_targets(&shape, group), &[3])[content];
+        let at = place(&shape, group, unit as u64).1;
+        (at.frame, at.target)
+    };
+    home(2, 0) == (2, 2) && home(3, 1) == (2, 0)
+}
+
+fn two_products() -> bool {
+    (multiply(2, 142), multiply(2, 128)) == (1, 29)
+}
+
+fn one_coefficient() -> bool {
+    coefficient(1, 1) == 232
+}
+
+fn two_parities() -> bool {
+    let mut buffer = [0, 2, 0, 0];
+    encode(&layout(2, 2, 6, 1, 1, 0), &mut buffer) == 0 && buffer == [0, 2, 2, 205]
+}
+
+fn spare_choices() -> bool {
+    let targets: [u64; 5] = [10, 11, 12, 13, 14];
+    let data_on = |list: [u64; 2]| targets[homes(3, &targets, &list)[0]];
+    (data_on([10, 13]), data_on([13, 10]), data_on([14, 10])) == (14, 14, 13)
+}
+
+fn three_lines() -> bool {
+    let shape = layout(1, 1, 3, 2, 1, 0);
+    let mut image = [0; 6];
+    if write(&shape, &Record::default(), &mut image, 0, &[0x41, 0x42]) != 0 {
+        return false;
+    }
+    let wanted = ["00 000000 0000\n", "01 000000 4142\n", "02 000000 4142\n"];
+    (0..3).all(|target| {
+        let mut line = [1; 15];
+        let refusal = hex_line(&shape, &image, target, 0, &mut line);
+        refusal == 0 && line == wanted[target as usize].as_bytes()
+    })
+}
+
+fn slip() -> bool {
+    let wrong = example().u * example().derived().w;
+    (9 / wrong, 9 % wrong / example().u) == (0, 2)
+}
+
+#[cfg(test)]
+mod tests {
+    #[test]
+    fn document_01s_examples_hold() {
+        assert_eq!(super::failures(), Vec::<&str>::new());
+    }
+}
