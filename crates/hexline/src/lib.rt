@@ -120,7 +120,7 @@ pub fn hex_line(y: Layout, image: &[u8], target: u64, frame: u64, line: &mut [u8
         frame: frame,
         target: target,
     };
-    let begins = place::spot_of(y, here, 0);
+    let begins = place::spot_of(y, numbers::shape_of(y), here, 0);
     fill_line(image, begins as usize, y.u as usize, target, frame, line);
     0
 }

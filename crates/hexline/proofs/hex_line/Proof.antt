@@ -31,20 +31,25 @@ shown : (c : tie.Else1)
     (length (c .before .before .before .before .args .line .now))
 shown c = accepted-line _ _ _ _ _ (sym (c .before .line-refusal .ensures) ∙ c .if1 .left)
 
+shape-of-requires : tie.Need-shape-of-requires
+shape-of-requires c κs = shown c .valid
+
 spot-of-requires : tie.Need-spot-of-requires
-spot-of-requires c κs = let a = shown c in (a .valid, a .target-in, a .frame-in, omega (arith, a .valid .some-bytes))
+spot-of-requires c κs =
+    let a = shown (c .before) in (a .valid, c .shape-of .ensures, a .target-in, a .frame-in, omega (arith, a .valid .some-bytes))
 
 fill-line-requires : tie.Need-fill-line-requires
 fill-line-requires c κs =
-    let a = shown (c .before .before) in (unit-fits _ (c .before .before .before .before .before .before .args .image .now) _ _ _ _ a (c .before .spot-of .ensures .0), a .valid .few-bytes)
+    let a = shown (c .before .before .before) in
+    (unit-fits _ (c .before .before .before .before .before .before .before .args .image .now) _ _ _ _ a (c .before .spot-of .ensures .0), a .valid .few-bytes)
 
 same-length-2 : tie.Need-same-length-2
 same-length-2 c = search needs
 
 returns-2 : tie.Need-returns-2
 returns-2 c =
-    let r = c .before .before .before .before .before .before .line-refusal .ensures in
-    let z = c .before .before .before .before .before .if1 .left in
+    let r = c .before .before .before .before .before .before .before .line-refusal .ensures in
+    let z = c .before .before .before .before .before .before .if1 .left in
     record {
       answer = sym z ∙ r;
       line = c .before .before .fill-line .ensures ∙ written-line _ _ _ _ _ _ (sym r ∙ z) (c .before .before .before .before .spot-of .ensures .0);
@@ -52,4 +57,4 @@ returns-2 c =
 
 pub hex-line-spec : {M : Type 1} → statement M
 hex-line-spec =
-    tie.close (tie.spec line-refusal-requires clear-requires same-length returns spot-of-requires fill-line-requires same-length-2 returns-2)
+    tie.close (tie.spec line-refusal-requires clear-requires same-length returns shape-of-requires spot-of-requires fill-line-requires same-length-2 returns-2)
