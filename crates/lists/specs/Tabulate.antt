@@ -1,12 +1,15 @@
 -- Lists given by what stands at each index.
 use mathlib.Core.Path.{_≡_, refl, ap, sym, subst, _∙_}
+use mathlib.Core.Bool.{Bool, true}
 use mathlib.Core.List.{List, [], _∷_}
 use Prim.Native.Nat.{ℕ, zero, suc, _+_, _<_}
 use native.Mathlib.Nat.{not-suc-le-zero, le-of-suc-le-suc}
 use native.Mathlib.Omega.{arith}
-use lib.ListN.{length, getD, set, length-set}
+use lib.ListN.{length, getD, set}
 use lib.Seq.{ext-getD, getD-set-same, getD-set-other}
-use Rattle.lists.specs.Pick.{equal-or-not}
+use borrow.Author.Tests.{eqb-true}
+use lib.Dec.{eqb}
+use Rattle.lists.specs.Pick.{both, both-true, equal-or-not}
 
 module _ {A : Type 0} where
   -- n elements, f i at each index i
@@ -46,6 +49,16 @@ module _ {A : Type 0} where
 -- n zeros
 abbrev pub zeros : ℕ → List ℕ
 zeros n = tabulate n (λ i. 0)
+
+-- a list that is written out, of zeros alone: a test that antt computes
+abbrev pub allZero : List ℕ → Bool
+allZero [] = true
+allZero (x ∷ l) = both (eqb x 0) (allZero l)
+
+pub zero-at : (l : List ℕ) → allZero l ≡ true → (i : ℕ) → getD l i 0 ≡ 0
+zero-at [] t i = refl
+zero-at (x ∷ l) t zero = eqb-true x 0 (both-true (eqb x 0) (allZero l) t .0)
+zero-at (x ∷ l) t (suc i) = zero-at l (both-true (eqb x 0) (allZero l) t .1) i
 
 -- entry t of a list of numbers
 abbrev pub at : List ℕ → ℕ → ℕ

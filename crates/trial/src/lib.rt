@@ -56,10 +56,14 @@ pub fn text(word: &[u8]) {
     io::write_all(STDOUT_FILENO, word);
 }
 
+pub fn decimal(n: u64) {
+    io::print_decimal(STDOUT_FILENO, n);
+}
+
 // A space and a number.
 pub fn number(n: u64) {
-    io::write_all(STDOUT_FILENO, b" ");
-    io::print_decimal(STDOUT_FILENO, n);
+    text(b" ");
+    decimal(n);
 }
 
 pub fn newline() {

@@ -1,0 +1,4 @@
+pub mod Buffer
+pub mod Units
+pub mod Encoding
+pub mod Mending

@@ -1,0 +1,6 @@
+pub mod Byte
+pub mod Xor
+pub mod Linear
+pub mod Laws
+pub mod Ring
+pub mod Sum

@@ -1,0 +1,269 @@
+// One group of n data and k parity units with some units missing: the units that are read in their place, and for each missing unit its row
+// of coefficients over those. Worked out once for a set of missing units, whatever the bytes are.
+ghost use mathlib.Core.Path.{_≡_};
+ghost use mathlib.Core.Bool.{true};
+ghost use Prim.Native.Nat.{ℕ, _+_, _-_, _<_, _≤_};
+ghost use lib.ListN.{length, getD};
+ghost use Rattle.lists.specs.Pick.{pick, bit};
+ghost use Rattle.lists.specs.Count.{count};
+ghost use Rattle.lists.specs.Those.{those};
+ghost use Rattle.systems.specs.Coef.{coef as coefficient};
+ghost use Rattle.systems.specs.Matrix.{ent, three-of};
+ghost use Rattle.parity.specs.Matrix.{flag, present, Holds, weightOf, slotCoef, lostCoef, parityCoef, unitCoef, RowsFor};
+ghost use Rattle.parity.specs.Group.{Solvable};
+ghost use Rattle.parity.specs.Rows.{slot};
+
+// At most three numbers, in order, with zeros after them.
+pub struct Few {
+    pub at: [usize; 3],
+    pub count: usize,
+}
+
+// The missing units below n.
+pub fn missing_below(miss: [bool; 19], n: usize) -> Few
+    requires { ⌜ (n ≤ 19) × (length (those (flag miss) n) ≤ 3) ⌝ }
+    ensures { λ r. ⌜ Holds (those (flag miss) n) (r .at) (r .count) ⌝ }
+{
+    let mut found = [0usize; 3];
+    let mut d: usize = 0;
+    let mut j: usize = 0;
+    while j < n {
+        if miss[j] {
+            found[d] = j;
+            d += 1;
+        }
+        j += 1;
+    }
+    Few {
+        at: found,
+        count: d,
+    }
+}
+
+// The parity units that are there, counted from the first.
+fn present_parity(miss: [bool; 19], n: usize, k: usize) -> Few
+    requires { ⌜ (n ≤ 16) × (k ≤ 3) ⌝ }
+    ensures { λ r. ⌜ Holds (those (present miss n) k) (r .at) (r .count) ⌝ }
+{
+    let mut found = [0usize; 3];
+    let mut d: usize = 0;
+    let mut i: usize = 0;
+    while i < k {
+        if !miss[n + i] {
+            found[d] = i;
+            d += 1;
+        }
+        i += 1;
+    }
+    Few {
+        at: found,
+        count: d,
+    }
+}
+
+fn keep(x: u8, on: bool) -> u8
+    ensures { λ r. ⌜ r ≡ pick on x 0 ⌝ }
+{
+    if on { x } else { 0 }
+}
+
+fn one_if(on: bool) -> usize
+    ensures { λ r. ⌜ r ≡ bit on ⌝ }
+{
+    if on { 1 } else { 0 }
+}
+
+// The weights of d equations in one unknown, from its row of the inverse; those of padding are 0.
+fn weights(line: [u8; 3], d: usize) -> [u8; 3]
+    ensures { λ x. ⌜ x ≡ three-of (weightOf line d) ⌝ }
+{
+    [
+        keep(line[0], 0 < d),
+        keep(line[1], 1 < d),
+        keep(line[2], 2 < d),
+    ]
+}
+
+// The coefficients of data unit j in the parity units `is`.
+fn coefs_down(is: [usize; 3], j: usize) -> [u8; 3]
+    requires { ⌜ (j < 16) × ((r : ℕ) → r < 3 → getD is r 0 < 3) ⌝ }
+    ensures { λ x. ⌜ x ≡ three-of (λ r. coefficient (getD is r 0) j) ⌝ }
+{
+    [
+        systems::coef(is[0], j),
+        systems::coef(is[1], j),
+        systems::coef(is[2], j),
+    ]
+}
+
+// The coefficients of the data units `ks` in parity unit i.
+fn coefs_across(i: usize, ks: [usize; 3]) -> [u8; 3]
+    requires { ⌜ (i < 3) × ((c : ℕ) → c < 3 → getD ks c 0 < 16) ⌝ }
+    ensures { λ x. ⌜ x ≡ three-of (λ c. coefficient i (getD ks c 0)) ⌝ }
+{
+    [
+        systems::coef(i, ks[0]),
+        systems::coef(i, ks[1]),
+        systems::coef(i, ks[2]),
+    ]
+}
+
+// The coefficient of slot j: the weight of the parity unit that stands in, which is number c, or what the equations bring of data unit j.
+fn slot_coef(w: [u8; 3], is: [usize; 3], missing: bool, c: usize, j: usize) -> u8
+    requires { ⌜ (j < 16) × ((r : ℕ) → r < 3 → getD is r 0 < 3) × ((missing ≡ true → c < 3)) ⌝ }
+    ensures { λ x. ⌜ x ≡ slotCoef w is missing c j ⌝ }
+{
+    if missing {
+        return w[c];
+    }
+    systems::dot(w, coefs_down(is, j))
+}
+
+// The row of a lost data unit, from its weights w.
+fn data_row(miss: [bool; 19], n: usize, w: [u8; 3], is: [usize; 3]) -> [u8; 16]
+    requires { ⌜ (n ≤ 16) × (length (those (flag miss) n) ≤ 3) × ((r : ℕ) → r < 3 → getD is r 0 < 3) ⌝ }
+    ensures { λ x. ⌜ ((j : ℕ) → j < n → getD x j 0 ≡ slotCoef w is (flag miss j) (count (flag miss) j) j) ⌝ }
+{
+    let mut row = [0u8; 16];
+    let mut c: usize = 0;
+    let mut j: usize = 0;
+    while j < n {
+        row[j] = slot_coef(w, is, miss[j], c, j);
+        c += one_if(miss[j]);
+        j += 1;
+    }
+    row
+}
+
+// The row of the lost data unit number c, of d, where m is the inverse; zeros beyond them.
+fn lost_row(
+    miss: [bool; 19],
+    n: usize,
+    m: [[u8; 3]; 3],
+    is: [usize; 3],
+    d: usize,
+    c: usize,
+) -> [u8; 16]
+    requires { ⌜ (n ≤ 16) × (length (those (flag miss) n) ≤ 3) × ((r : ℕ) → r < 3 → getD is r 0 < 3) × (c < 3) ⌝ }
+    ensures { λ x. ⌜ ((j : ℕ) → j < n → getD x j 0 ≡ lostCoef m is d (flag miss) c j) ⌝ }
+{
+    if c < d {
+        let line = m[c];
+        return data_row(miss, n, weights(line, d), is);
+    }
+    [0u8; 16]
+}
+
+// The rows of the lost data units.
+fn lost_rows(miss: [bool; 19], n: usize, m: [[u8; 3]; 3], is: [usize; 3], d: usize) -> [[u8; 16]; 3]
+    requires { ⌜ (n ≤ 16) × (length (those (flag miss) n) ≤ 3) × ((r : ℕ) → r < 3 → getD is r 0 < 3) ⌝ }
+    ensures { λ x. ⌜ ((c : ℕ) → c < 3 → (j : ℕ) → j < n → ent x c j ≡ lostCoef m is d (flag miss) c j) ⌝ }
+{
+    [
+        lost_row(miss, n, m, is, d, 0),
+        lost_row(miss, n, m, is, d, 1),
+        lost_row(miss, n, m, is, d, 2),
+    ]
+}
+
+// The coefficient of slot j in parity unit i: its own, and what the lost units bring, in which slot j counts for `col`.
+fn parity_coef(ks: [usize; 3], col: [u8; 3], missing: bool, i: usize, j: usize) -> u8
+    requires { ⌜ (i < 3) × (j < 16) × ((c : ℕ) → c < 3 → getD ks c 0 < 16) ⌝ }
+    ensures { λ x. ⌜ x ≡ parityCoef ks col missing i j ⌝ }
+{
+    keep(systems::coef(i, j), !missing) ^ systems::dot(coefs_across(i, ks), col)
+}
+
+// The row of parity unit i, from the rows of the lost data units.
+fn parity_row(
+    miss: [bool; 19],
+    n: usize,
+    ks: [usize; 3],
+    lines: [[u8; 16]; 3],
+    i: usize,
+) -> [u8; 16]
+    requires { ⌜ (n ≤ 16) × (i < 3) × ((c : ℕ) → c < 3 → getD ks c 0 < 16) ⌝ }
+    ensures { λ x. ⌜ ((j : ℕ) → j < n → getD x j 0 ≡ parityCoef ks (three-of (λ r. ent lines r j)) (flag miss j) i j) ⌝ }
+{
+    let mut row = [0u8; 16];
+    let mut j: usize = 0;
+    while j < n {
+        let col = [lines[0][j], lines[1][j], lines[2][j]];
+        row[j] = parity_coef(ks, col, miss[j], i, j);
+        j += 1;
+    }
+    row
+}
+
+// The row of the missing unit number q: a lost data unit, or the unit u, which is parity; zeros where there is none.
+fn unit_row(
+    miss: [bool; 19],
+    n: usize,
+    ks: [usize; 3],
+    d: usize,
+    lines: [[u8; 16]; 3],
+    total: usize,
+    q: usize,
+    u: usize,
+) -> [u8; 16]
+    requires { ⌜ (n ≤ 16) × (q < 3) × ((c : ℕ) → c < 3 → getD ks c 0 < 16) × ((d ≤ q → q < total → (n ≤ u) × (u < n + 3))) ⌝ }
+    ensures { λ x. ⌜ ((j : ℕ) → j < n → getD x j 0 ≡ unitCoef ks d lines total (flag miss j) q (u - n) j) ⌝ }
+{
+    if q < d {
+        return lines[q];
+    }
+    if q < total {
+        return parity_row(miss, n, ks, lines, u - n);
+    }
+    [0u8; 16]
+}
+
+// For each missing unit, lowest first, its coefficients over the slots.
+pub fn rows(miss: [bool; 19], n: usize, k: usize) -> [[u8; 16]; 3]
+    requires { ⌜ Solvable n k (flag miss) ⌝ }
+    ensures { λ x. ⌜ RowsFor n k (flag miss) x ⌝ }
+{
+    let gone = missing_below(miss, n + k);
+    let lost = missing_below(miss, n);
+    let there = present_parity(miss, n, k);
+    let units = gone.at;
+    let total = gone.count;
+    let ks = lost.at;
+    let d = lost.count;
+    let is = there.at;
+    let lines = lost_rows(miss, n, systems::inverse(systems::system(is, ks, d)), is, d);
+    [
+        unit_row(miss, n, ks, d, lines, total, 0, units[0]),
+        unit_row(miss, n, ks, d, lines, total, 1, units[1]),
+        unit_row(miss, n, ks, d, lines, total, 2, units[2]),
+    ]
+}
+
+// The unit that slot j reads; where data unit j is missing it is number c of those.
+fn slot_unit(n: usize, is: [usize; 3], missing: bool, c: usize, j: usize) -> usize
+    requires { ⌜ (n ≤ 16) × ((r : ℕ) → r < 3 → getD is r 0 < 3) × ((missing ≡ true → c < 3)) ⌝ }
+    ensures { λ x. ⌜ x ≡ pick missing (n + getD is c 0) j ⌝ }
+{
+    if missing {
+        return n + is[c];
+    }
+    j
+}
+
+// The units that the slots read.
+pub fn slots(miss: [bool; 19], n: usize, k: usize) -> [usize; 16]
+    requires { ⌜ Solvable n k (flag miss) ⌝ }
+    ensures { λ x. ⌜ ((j : ℕ) → j < n → getD x j 0 ≡ slot n k (flag miss) j) ⌝ }
+{
+    let there = present_parity(miss, n, k);
+    let is = there.at;
+    let mut units = [0usize; 16];
+    let mut c: usize = 0;
+    let mut j: usize = 0;
+    while j < n {
+        units[j] = slot_unit(n, is, miss[j], c, j);
+        c += one_if(miss[j]);
+        j += 1;
+    }
+    units
+}

@@ -1,0 +1,5 @@
+pub mod Placement
+pub mod Walks
+pub mod Refusals
+pub mod Tight
+pub mod Examples

@@ -1,0 +1,5 @@
+pub mod Coef
+pub mod Cramer
+pub mod System
+pub mod Matrix
+pub mod Entry

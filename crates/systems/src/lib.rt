@@ -1,0 +1,170 @@
+// The coefficients of the parity code, and small systems over the field with a matrix held by value, rows of rows.
+ghost use mathlib.Core.Path.{_≡_};
+ghost use Prim.Native.Nat.{ℕ, _<_};
+ghost use lib.ListN.{getD};
+ghost use Rattle.field.specs.Byte.{inv as inverse_of};
+ghost use Rattle.systems.specs.Coef.{coef as coefficient};
+ghost use Rattle.systems.specs.Cramer.{lo, hi, cof, det as determinant, inverse as inverseEntry};
+ghost use Rattle.systems.specs.System.{systemEntry};
+ghost use Rattle.systems.specs.Matrix.{ent, three-of, square-of, dotOf};
+
+const COEFS: [[u8; 16]; 3] = [
+    [1, 1, 1, 1, 1, 1, 1, 1, 1, 1, 1, 1, 1, 1, 1, 1],
+    [
+        1,
+        232,
+        220,
+        240,
+        194,
+        14,
+        124,
+        170,
+        53,
+        144,
+        186,
+        162,
+        17,
+        63,
+        50,
+        101,
+    ],
+    [
+        1,
+        220,
+        130,
+        32,
+        10,
+        134,
+        21,
+        182,
+        128,
+        3,
+        55,
+        126,
+        83,
+        193,
+        88,
+        41,
+    ],
+];
+
+// The coefficient of data unit j in parity unit i.
+pub fn coef(i: usize, j: usize) -> u8
+    requires { ⌜ (i < 3) × (j < 16) ⌝ }
+    ensures { λ x. ⌜ x ≡ coefficient i j ⌝ }
+{
+    COEFS[i][j]
+}
+
+// The coefficients of parity i.
+pub fn row(i: usize) -> [u8; 16]
+    requires { ⌜ i < 3 ⌝ }
+    ensures { λ x. ⌜ ((j : ℕ) → j < 16 → getD x j 0 ≡ coefficient i j) ⌝ }
+{
+    COEFS[i]
+}
+
+// The two other indices of three.
+fn low(r: usize) -> usize
+    ensures { λ x. ⌜ (x < 3) × (x ≡ lo r) ⌝ }
+{
+    if r == 0 { 1 } else { 0 }
+}
+
+fn high(r: usize) -> usize
+    requires { ⌜ r < 3 ⌝ }
+    ensures { λ x. ⌜ (x < 3) × (x ≡ hi r) ⌝ }
+{
+    if r == 2 { 1 } else { 2 }
+}
+
+// The determinant of what is left without row r and column c.
+fn cofactor(m: [[u8; 3]; 3], r: usize, c: usize) -> u8
+    requires { ⌜ (r < 3) × (c < 3) ⌝ }
+    ensures { λ x. ⌜ x ≡ cof (ent m) r c ⌝ }
+{
+    let i = low(r);
+    let k = high(r);
+    let j = low(c);
+    let l = high(c);
+    field::mul(m[i][j], m[k][l]) ^ field::mul(m[i][l], m[k][j])
+}
+
+// The sum of the products of two rows of three.
+pub fn dot(u: [u8; 3], v: [u8; 3]) -> u8
+    ensures { λ x. ⌜ x ≡ dotOf u v ⌝ }
+{
+    field::mul(u[0], v[0]) ^ (field::mul(u[1], v[1]) ^ field::mul(u[2], v[2]))
+}
+
+fn det(m: [[u8; 3]; 3]) -> u8
+    ensures { λ x. ⌜ x ≡ determinant (ent m) ⌝ }
+{
+    let c = [cofactor(m, 0, 0), cofactor(m, 0, 1), cofactor(m, 0, 2)];
+    dot(m[0], c)
+}
+
+// Row c of the inverse, where d is the inverse of the determinant.
+fn inverse_row(m: [[u8; 3]; 3], d: u8, c: usize) -> [u8; 3]
+    requires { ⌜ (c < 3) × (d ≡ inverse_of (determinant (ent m))) ⌝ }
+    ensures { λ x. ⌜ x ≡ three-of (inverseEntry (ent m) c) ⌝ }
+{
+    [
+        field::mul(cofactor(m, 0, c), d),
+        field::mul(cofactor(m, 1, c), d),
+        field::mul(cofactor(m, 2, c), d),
+    ]
+}
+
+// The inverse of a matrix whose determinant is not 0: times a right side it is the one solution.
+pub fn inverse(m: [[u8; 3]; 3]) -> [[u8; 3]; 3]
+    ensures { λ x. ⌜ x ≡ square-of (inverseEntry (ent m)) ⌝ }
+{
+    let d = field::inv(det(m));
+    [
+        inverse_row(m, d, 0),
+        inverse_row(m, d, 1),
+        inverse_row(m, d, 2),
+    ]
+}
+
+// One entry of the equations for the lost units `ks` from the parity units `is`, d of each, padded with the identity.
+fn entry(is: [usize; 3], ks: [usize; 3], d: usize, r: usize, c: usize) -> u8
+    requires { ⌜ (r < 3) × (c < 3) × ((r : ℕ) → r < 3 → getD is r 0 < 3) × ((c : ℕ) → c < 3 → getD ks c 0 < 16) ⌝ }
+    ensures { λ x. ⌜ x ≡ systemEntry is ks d r c ⌝ }
+{
+    if r < d {
+        if c < d {
+            return coef(is[r], ks[c]);
+        }
+        return 0;
+    }
+    if r == c {
+        return 1;
+    }
+    0
+}
+
+// The equations, rows of rows.
+pub fn system(is: [usize; 3], ks: [usize; 3], d: usize) -> [[u8; 3]; 3]
+    requires { ⌜ ((r : ℕ) → r < 3 → getD is r 0 < 3) × ((c : ℕ) → c < 3 → getD ks c 0 < 16) ⌝ }
+    ensures { λ x. ⌜ x ≡ square-of (systemEntry is ks d) ⌝ }
+{
+    [
+        [
+            entry(is, ks, d, 0, 0),
+            entry(is, ks, d, 0, 1),
+            entry(is, ks, d, 0, 2),
+        ],
+        [
+            entry(is, ks, d, 1, 0),
+            entry(is, ks, d, 1, 1),
+            entry(is, ks, d, 1, 2),
+        ],
+        [
+            entry(is, ks, d, 2, 0),
+            entry(is, ks, d, 2, 1),
+            entry(is, ks, d, 2, 2),
+        ],
+    ]
+}
