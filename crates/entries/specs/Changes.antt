@@ -171,12 +171,12 @@ deletion-is r n ys = cc (scan-n (keyOf r) n 0 ys, scan-sound (keyOf r) n 0 ys, s
     (λ s. match-is r (take n ys) (scanOf (keyOf r) n 0 ys .found) (scanOf (keyOf r) n 0 ys .cob) (good n ys s .rises) (scan-found (keyOf r) n 0 ys) (scan-held (keyOf r) n 0 ys))
 
 -- what an accepted deletion knows
-record Gone (r : Entry) (n : ℕ) (ys : List Entry) : Type 0 where
-  h : Entry
-  parts : take n ys ≡ before (keyOf r) (take n ys) ++ h ∷ after (keyOf r) (take n ys)
-  size : n ≡ length (before (keyOf r) (take n ys)) + suc (length (after (keyOf r) (take n ys)))
+pub record Gone (r : Entry) (n : ℕ) (ys : List Entry) : Type 0 where
+  pub h : Entry
+  pub parts : take n ys ≡ before (keyOf r) (take n ys) ++ h ∷ after (keyOf r) (take n ys)
+  pub size : n ≡ length (before (keyOf r) (take n ys)) + suc (length (after (keyOf r) (take n ys)))
 
-gone : (r : Entry) (n : ℕ) (ys : List Entry) → sound n ys ≡ true → nonempty (matches r (take n ys)) ≡ true → Gone r n ys
+pub gone : (r : Entry) (n : ℕ) (ys : List Entry) → sound n ys ≡ true → nonempty (matches r (take n ys)) ≡ true → Gone r n ys
 gone r n ys s m = by-split (split (keyOf r) (take n ys) (good n ys s .rises))
   where
     by-split : Split (keyOf r) (take n ys) → Gone r n ys

@@ -14,3 +14,4 @@ pub mod Changes
 pub mod Listings
 pub mod Laws
 pub mod Pages
+pub mod Slots

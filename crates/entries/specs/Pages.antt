@@ -7,17 +7,20 @@ use mathlib.Core.Bool.{Bool, true, false}
 use mathlib.Core.List.{List, [], _∷_, _++_, map, append-nil}
 use lib.Dec.{ltb, leb, eqb, leb·zero}
 use lib.ListN.{length, getD, take, drop, length-map, length-drop, take-append-drop, List·getD-map}
-use lib.Seq.{take-all}
+use lib.Seq.{take-all, take-append-seam}
 use borrow.Author.Tests.{ltb-true, ltb-false, leb-true, eqb-true, le-leb, eq-eqb}
 use Rattle.lists.specs.Pick.{pick, both, both-true, both-hold}
-use Rattle.lists.specs.Passing.{passing, passing-yes, passing-no, passing-stronger}
+use Rattle.lists.specs.Passing.{passing, passing-yes, passing-no, passing-stronger, over}
+use Rattle.lists.specs.Refusal.{refusalBy, refusal-none, grant}
+use Rattle.lists.specs.Tabulate.{zeros, length-tabulate}
 use Rattle.entries.specs.declared.Entry.{Entry}
 use Rattle.entries.specs.declared.Key.{Key}
+use Rattle.entries.specs.declared.Page.{Page}
 use Rattle.entries.specs.Blank.{blank}
 use Rattle.entries.specs.Key.{keyOf, keyLt, listable, rising, risingFrom}
 use Rattle.entries.specs.Orders.{Lt, by-device, by-file, lt-of, of-lt, lt-trans, lt-no}
 use Rattle.entries.specs.Splits.{first-lt, rest-rises, cons-rises, rising-tail}
-use Rattle.entries.specs.Catalogue.{onward, cobs, files}
+use Rattle.entries.specs.Catalogue.{onward, sound, cobs, files, listingTests, pageBy, listingOf, listedOut}
 use Rattle.entries.specs.Laws.{lower}
 
 -- ---- being listed
@@ -148,3 +151,45 @@ from-zero d (x ∷ xs) =
   where
     k : Key
     k = record { device = d; file = 0 }
+
+-- ---- the same, of the calls: what at most t listings in a row write, each into m places, continued at the next file number while more remain
+
+unfoldable pub visited : ℕ → ℕ → Key → ℕ → List Entry → List ℕ
+visited zero m k n ys = []
+visited (suc t) m k n ys =
+    take (listingOf k n ys (zeros m) .count) (listedOut k n ys (zeros m))
+    ++ pick (listingOf k n ys (zeros m) .more) (visited t m (record { device = k .device; file = listingOf k n ys (zeros m) .next }) n ys) []
+
+-- one of them, in an ordered catalogue
+module _ (m : ℕ) (k : Key) (n : ℕ) (ys : List Entry) (s : sound n ys ≡ true) where
+  accepted : refusalBy (listingTests n ys) ≡ 0
+  accepted = refusal-none (listingTests n ys) (s, tt)
+
+  page-is : listingOf k n ys (zeros m) ≡ pageBy 0 (length (take m (cobs k (take n ys)))) (ltb m (length (cobs k (take n ys)))) (getD (files (onward k (take n ys))) m 0)
+  page-is =
+      ap (λ (j : ℕ). pageBy (refusalBy (listingTests n ys)) (length (take j (cobs k (take n ys)))) (ltb j (length (cobs k (take n ys)))) (getD (files (onward k (take n ys))) j 0)) (length-tabulate m _)
+      ∙ ap (λ (j : ℕ). pageBy j (length (take m (cobs k (take n ys)))) (ltb m (length (cobs k (take n ys)))) (getD (files (onward k (take n ys))) m 0)) accepted
+
+  out-is : listedOut k n ys (zeros m) ≡ over (take m (cobs k (take n ys))) (zeros m)
+  out-is =
+      ap (λ (j : ℕ). grant j (over (take (length (zeros m)) (cobs k (take n ys))) (zeros m)) (zeros (length (zeros m)))) accepted
+      ∙ ap (λ (j : ℕ). over (take j (cobs k (take n ys))) (zeros m)) (length-tabulate m _)
+
+  written-is : take (listingOf k n ys (zeros m) .count) (listedOut k n ys (zeros m)) ≡ take m (cobs k (take n ys))
+  written-is =
+      ap (λ (p : Page). take (p .count) (listedOut k n ys (zeros m))) page-is
+      ∙ ap (take (length (take m (cobs k (take n ys))))) out-is
+      ∙ take-append-seam (take m (cobs k (take n ys))) (drop (length (take m (cobs k (take n ys)))) (zeros m))
+
+visited-pages : (t m : ℕ) (k : Key) (n : ℕ) (ys : List Entry) → sound n ys ≡ true → visited t m k n ys ≡ pages t m k (take n ys)
+unfolding visited pages
+visited-pages zero m k n ys s = refl
+visited-pages (suc t) m k n ys s =
+    ap (λ (l : List ℕ). l ++ pick (listingOf k n ys (zeros m) .more) (visited t m (record { device = k .device; file = listingOf k n ys (zeros m) .next }) n ys) []) (written-is m k n ys s)
+    ∙ ap (λ (p : Page). take m (cobs k (take n ys)) ++ pick (p .more) (visited t m (record { device = k .device; file = p .next }) n ys) []) (page-is m k n ys s)
+    ∙ ap (λ (l : List ℕ). take m (cobs k (take n ys)) ++ pick (ltb m (length (cobs k (take n ys)))) l []) (visited-pages t m (nextKey k m (take n ys)) n ys s)
+
+-- "a listing continued at its next number visits every cob of the device exactly once", in file order
+pub visits-all : (t m : ℕ) (k : Key) (n : ℕ) (ys : List Entry) → sound n ys ≡ true → 0 < m → length (cobs k (take n ys)) ≤ t → visited t m k n ys ≡ cobs k (take n ys)
+visits-all t m k n ys s p l =
+    visited-pages t m k n ys s ∙ pages-all t m k (take n ys) (both-true (leb n (length ys)) (rising (take n ys)) s .1) p l
