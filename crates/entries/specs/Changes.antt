@@ -1,30 +1,26 @@
 -- What insertion and deletion leave, said of the whole list: `rolled` and `insertionOf` become `inserted`, and `deletionOf` becomes `removed`.
 use mathlib.Core.Path.{_≡_, refl, sym, ap, _∙_, subst}
-use Prim.Native.Nat.{ℕ, zero, suc, _+_, _-_, _≤_, _<_, _*_}
-use native.Mathlib.Nat.{add-zero, zero-add, add-suc, suc-add}
+use Prim.Native.Nat.{ℕ, suc, _+_, _-_, _≤_, _<_}
 use native.Mathlib.Omega.{arith}
-use mathlib.Core.Bool.{Bool, true, false, not, _&&_, _||_, false≢true}
-use mathlib.Core.List.{List, [], _∷_, _++_, map, append-assoc}
+use mathlib.Core.Bool.{Bool, true, false, _||_, false≢true}
+use mathlib.Core.List.{List, [], _∷_, _++_, append-assoc}
 use lib.Dec.{ltb, leb, eqb}
-use lib.ListN.{length, getD, set, take, drop, length-append, length-take, take-append-drop}
-use lib.Seq.{length-take-le, drop-cons, append-snoc}
-use borrow.Author.Tests.{ltb-true, ltb-false, leb-true, leb-false, eqb-true, eqb-false, lt-ltb, le-ltb, le-leb, lt-leb}
-use Rattle.lists.specs.Pick.{pick, both, both-true, clash}
+use lib.ListN.{length, getD, take, drop, length-append, take-append-drop}
+use lib.Seq.{length-take-le, drop-cons}
+use borrow.Author.Tests.{ltb-true, leb-true}
+use Rattle.lists.specs.Pick.{pick, both, both-true}
 use Rattle.lists.specs.Passing.{passing, over, nonempty}
 use Rattle.lists.specs.Refusal.{refusalBy, _orElse_}
 use Rattle.entries.specs.declared.Entry.{Entry}
-use Rattle.entries.specs.declared.Key.{Key}
-use Rattle.entries.specs.declared.Look.{Look}
 use Rattle.entries.specs.declared.Plan.{Plan}
 use Rattle.entries.specs.declared.Changed.{Changed}
 use Rattle.entries.specs.declared.Found.{Found}
 use Rattle.entries.specs.Blank.{blank}
-use Rattle.entries.specs.Key.{keyOf, keyLt, keyEq, rising, risingFrom}
-use Rattle.entries.specs.Orders.{Lt, lt-of, of-lt, lt-trans, Cmp, below, equal, above, cmp}
-use Rattle.entries.specs.Look.{scanOf, soundOf}
-use Rattle.entries.specs.Roll.{movedTo, rolled, inside}
-use Rattle.entries.specs.Plans.{placed, idleOf, insertionBy, deletionBy, insertionOf, deletionOf, outcomeOf}
-use Rattle.entries.specs.Catalogue.{before, holders, after, sound, inserted, insertNumber, insertOf, insertedList, removed, matches, deleteNumber, deleteOf, deletedList, changed, changedList}
+use Rattle.entries.specs.Key.{keyOf, rising}
+use Rattle.entries.specs.Look.{scanOf}
+use Rattle.entries.specs.Roll.{rolled, inside}
+use Rattle.entries.specs.Plans.{insertionBy, deletionBy, insertionOf, deletionOf, outcomeOf}
+use Rattle.entries.specs.Catalogue.{before, holders, after, sound, inserted, insertOf, insertedList, removed, matches, deleteOf, deletedList, changed, changedList}
 use Rattle.entries.specs.Splits.{Split, new, old, split}
 use Rattle.entries.specs.Rolls.{rolled-up, rolled-down}
 use Rattle.entries.specs.Looks.{heldCob, scan-n, scan-len, scan-sound, scan-at, scan-found, scan-held, heldOr, scan-placed}

@@ -1,25 +1,24 @@
 -- What follows of the definitions: a legal catalogue stays legal, and what a lookup gives after an insertion and after a deletion.
 use mathlib.Core.Path.{_≡_, refl, sym, ap, _∙_, subst}
-use Prim.Native.Nat.{ℕ, zero, suc, _+_, _-_, _≤_, _<_}
+use Prim.Native.Nat.{ℕ, zero, suc, _≤_}
 use native.Mathlib.Omega.{arith}
 use mathlib.Core.Bool.{Bool, true, false, false≢true}
 use mathlib.Core.List.{List, [], _∷_, _++_, append-assoc}
-use lib.Dec.{ltb, leb, eqb, eqb·suc-zero}
-use lib.ListN.{length, getD, take, drop, length-append}
+use lib.Dec.{leb}
+use lib.ListN.{length, take, drop, length-append}
 use lib.Seq.{take-append-seam}
-use borrow.Author.Tests.{le-leb, leb-true}
+use borrow.Author.Tests.{le-leb}
 use Rattle.lists.specs.Pick.{pick, both-true, both-hold}
 use Rattle.lists.specs.Passing.{passing-yes, passing-no, passing-append, passing-none, over}
 use Rattle.lists.specs.Refusal.{grant}
 use Rattle.entries.specs.declared.Entry.{Entry}
 use Rattle.entries.specs.declared.Key.{Key}
-use Rattle.entries.specs.declared.Found.{Found}
 use Rattle.entries.specs.Blank.{blank}
 use Rattle.entries.specs.Key.{keyOf, keyLt, keyEq, rising, risingFrom}
-use Rattle.entries.specs.Orders.{Lt, lt-of, of-lt, lt-trans, lt-irrefl, lt-ne, gt-ne, eq-of, eq-refl, Cmp, below, equal, above, cmp, Le, same, less}
-use Rattle.entries.specs.Splits.{first-lt, rest-rises, cons-rises, Above, above-all, Split, new, old, split, rising-tail}
+use Rattle.entries.specs.Orders.{Lt, lt-of, lt-trans, lt-irrefl, lt-ne, gt-ne, eq-refl, Cmp, below, equal, above, cmp, same, less}
+use Rattle.entries.specs.Splits.{first-lt, rest-rises, cons-rises, above-all, Split, new, old, split, rising-tail}
 use Rattle.entries.specs.Looks.{heldCob, found-is}
-use Rattle.entries.specs.Catalogue.{before, holders, after, sound, foundBy, lookupOf, inserted, insertNumber, insertOf, insertedList, removed, matches, deleteNumber, deleteOf, deletedList, changed, changedList}
+use Rattle.entries.specs.Catalogue.{before, holders, after, sound, foundBy, lookupOf, inserted, insertNumber, insertOf, insertedList, removed, deleteNumber, deleteOf, deletedList, changed, changedList}
 
 -- ---- rising lists
 pub lower : (a b : Key) (xs : List Entry) → Lt a b → risingFrom b xs ≡ true → risingFrom a xs ≡ true

@@ -1,7 +1,6 @@
 -- What a listing answers and leaves, said of the whole list.
 use mathlib.Core.Path.{_≡_, refl, sym, ap, _∙_, subst}
-use Prim.Native.Nat.{ℕ, zero, suc, _+_, _-_, _≤_, _<_, min}
-use native.Mathlib.Nat.{add-zero, zero-add, sub-zero}
+use Prim.Native.Nat.{ℕ, zero, suc, _+_, _-_, _≤_}
 use native.Mathlib.Omega.{arith}
 use mathlib.Core.Bool.{Bool, true, false}
 use mathlib.Core.List.{List, [], _∷_, _++_, map, append-assoc, append-nil}
@@ -15,12 +14,11 @@ use Rattle.lists.specs.Refusal.{refusalBy, _orElse_, grant}
 use Rattle.lists.specs.Tabulate.{zeros}
 use Rattle.entries.specs.declared.Entry.{Entry}
 use Rattle.entries.specs.declared.Key.{Key}
-use Rattle.entries.specs.declared.Look.{Look}
 use Rattle.entries.specs.declared.Show.{Show}
 use Rattle.entries.specs.declared.Page.{Page}
 use Rattle.entries.specs.Blank.{blank}
-use Rattle.entries.specs.Key.{keyOf, rising}
-use Rattle.entries.specs.Look.{scanOf, soundOf}
+use Rattle.entries.specs.Key.{rising}
+use Rattle.entries.specs.Look.{scanOf}
 use Rattle.entries.specs.Listed.{listed, wiped}
 use Rattle.entries.specs.Plans.{shownBy, shownOf, reportOf}
 use Rattle.entries.specs.Catalogue.{before, onward, sound, cobs, files, pageBy, listingOf, listedOut}

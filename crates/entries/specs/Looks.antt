@@ -1,23 +1,23 @@
 -- What the pass found, said of the whole list: each field of `lookOf` is a fact about the records that pass a test.
 use mathlib.Core.Path.{_≡_, refl, sym, ap, _∙_}
-use Prim.Native.Nat.{ℕ, zero, suc, _+_, _-_, _≤_, _<_}
+use Prim.Native.Nat.{ℕ, zero, suc, _+_, _-_, _≤_}
 use native.Mathlib.Nat.{add-zero, zero-add, not-suc-le-zero, sub-zero}
 use native.Mathlib.Omega.{arith}
 use mathlib.Core.Bool.{Bool, true, false, _||_}
-use mathlib.Core.List.{List, [], _∷_, _++_, map}
-use lib.Dec.{ltb, leb, eqb, eqb·suc-zero, leb·suc-suc}
+use mathlib.Core.List.{List, [], _∷_}
+use lib.Dec.{ltb, eqb, eqb·suc-zero, leb·suc-suc}
 use lib.ListN.{length, getD, take, length-take}
-use borrow.Author.Tests.{ltb-true, ltb-false, lt-ltb, le-ltb}
-use Rattle.lists.specs.Pick.{pick, both, clash}
-use Rattle.lists.specs.Passing.{passing, nonempty, nonempty-pos}
+use borrow.Author.Tests.{ltb-false, lt-ltb, le-ltb}
+use Rattle.lists.specs.Pick.{pick, both}
+use Rattle.lists.specs.Passing.{nonempty, nonempty-pos}
 use Rattle.lists.specs.Refusal.{refusalBy, _orElse_}
 use Rattle.entries.specs.declared.Entry.{Entry}
 use Rattle.entries.specs.declared.Key.{Key}
 use Rattle.entries.specs.declared.Look.{Look}
 use Rattle.entries.specs.declared.Found.{Found}
 use Rattle.entries.specs.Key.{keyOf, keyLt, keyEq, listable, rising, risingFrom}
-use Rattle.entries.specs.Look.{leastOf, firstOf, fewerOf, beyondOf, risesOf, countedOf, startOf, stepOf, lookOf, scanOf, soundOf}
-use Rattle.entries.specs.Catalogue.{before, holders, after, onward, sound, cobOf, foundBy, files, lookupOf}
+use Rattle.entries.specs.Look.{leastOf, firstOf, fewerOf, beyondOf, countedOf, startOf, stepOf, lookOf, scanOf, soundOf}
+use Rattle.entries.specs.Catalogue.{before, holders, onward, sound, cobOf, foundBy, files, lookupOf}
 use Rattle.entries.specs.Plans.{answerOf, placed}
 use Rattle.entries.specs.Orders.{lt-ne}
 

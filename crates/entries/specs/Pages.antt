@@ -1,6 +1,6 @@
 -- Listings that are continued at the next file number visit every cob of the device once, in file order.
 use mathlib.Core.Path.{_≡_, refl, sym, ap, _∙_, subst}
-use Prim.Native.Nat.{ℕ, zero, suc, _+_, _-_, _≤_, _<_}
+use Prim.Native.Nat.{ℕ, zero, suc, _≤_, _<_}
 use native.Mathlib.Nat.{not-suc-le-zero, le-of-suc-le-suc}
 use native.Mathlib.Omega.{arith}
 use mathlib.Core.Bool.{Bool, true, false}
@@ -17,8 +17,8 @@ use Rattle.entries.specs.declared.Entry.{Entry}
 use Rattle.entries.specs.declared.Key.{Key}
 use Rattle.entries.specs.declared.Page.{Page}
 use Rattle.entries.specs.Blank.{blank}
-use Rattle.entries.specs.Key.{keyOf, keyLt, listable, rising, risingFrom}
-use Rattle.entries.specs.Orders.{Lt, by-device, by-file, lt-of, of-lt, lt-trans, lt-no}
+use Rattle.entries.specs.Key.{keyOf, listable, rising, risingFrom}
+use Rattle.entries.specs.Orders.{Lt, by-device, by-file, lt-trans, lt-no}
 use Rattle.entries.specs.Splits.{first-lt, rest-rises, cons-rises, rising-tail}
 use Rattle.entries.specs.Catalogue.{onward, sound, cobs, files, listingTests, pageBy, listingOf, listedOut}
 use Rattle.entries.specs.Laws.{lower}

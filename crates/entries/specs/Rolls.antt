@@ -1,15 +1,15 @@
 -- A run over the slice, said with lists.
-use mathlib.Core.Path.{_≡_, refl, sym, ap, _∙_, subst}
+use mathlib.Core.Path.{_≡_, refl, sym, ap, _∙_}
 use Prim.Native.Nat.{ℕ, zero, suc, _+_, _-_}
-use native.Mathlib.Nat.{suc-add, add-zero, add-suc}
+use native.Mathlib.Nat.{suc-add, add-zero}
 use native.Mathlib.Omega.{arith}
-use mathlib.Core.Bool.{Bool, true, false}
+use mathlib.Core.Bool.{true, false}
 use mathlib.Core.List.{List, [], _∷_, _++_, append-assoc}
 use lib.ListN.{length, getD, set, length-append}
 use lib.Seq.{set-at, getD-at}
 use Rattle.entries.specs.declared.Entry.{Entry}
 use Rattle.entries.specs.Blank.{blank}
-use Rattle.entries.specs.Roll.{movedTo, rolled}
+use Rattle.entries.specs.Roll.{rolled}
 
 -- what stands in front of a run upwards is left
 pub rolled-cons : (m at : ℕ) (c y : Entry) (ys : List Entry) → rolled m false (suc at) c (y ∷ ys) ≡ y ∷ rolled m false at c ys

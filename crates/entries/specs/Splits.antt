@@ -1,15 +1,14 @@
 -- A list whose keys rise is the records below a key, the one of the key if there is one, and passing above it.
 use mathlib.Core.Path.{_≡_, refl, sym, ap, _∙_, subst}
-use Prim.Native.Nat.{ℕ, _<_}
-use native.Mathlib.Omega.{arith}
-use mathlib.Core.Bool.{Bool, true, false}
+use Prim.Native.Nat.{_<_}
+use mathlib.Core.Bool.{true, false}
 use mathlib.Core.List.{List, [], _∷_, _++_}
 use Rattle.lists.specs.Pick.{both-true, both-hold}
 use Rattle.lists.specs.Passing.{passing-yes, passing-no}
 use Rattle.entries.specs.declared.Entry.{Entry}
 use Rattle.entries.specs.declared.Key.{Key}
 use Rattle.entries.specs.Key.{keyOf, keyLt, keyEq, listable, rising, risingFrom}
-use Rattle.entries.specs.Orders.{Le, same, less, le-lt, Reach, near, far, reach, far-on, far-no, lt-no, Lt, lt-of, of-lt, lt-trans, lt-irrefl, not-lt, Cmp, below, equal, above, cmp}
+use Rattle.entries.specs.Orders.{Le, same, less, le-lt, Reach, near, far, reach, far-on, far-no, lt-no, Lt, lt-of, of-lt, lt-trans, lt-irrefl, Cmp, below, equal, above, cmp}
 use Rattle.entries.specs.Catalogue.{before, holders, after, onward}
 
 -- ---- a list that rises from a key on: its first record, and the others

@@ -1,5 +1,5 @@
 -- What the call's tests say, and that what it writes is the line of its definition.
-use mathlib.Core.Path.{_≡_, refl, sym, ap, _∙_, subst}
+use mathlib.Core.Path.{_≡_, refl, sym, ap, _∙_}
 use mathlib.Core.List.{List, [], _∷_}
 use Prim.Native.Nat.{ℕ, _+_, _*_, _-_, _≤_, _<_}
 use native.Mathlib.Omega.{arith}
@@ -7,7 +7,7 @@ use lib.Dec.{ltb, eqb}
 use lib.ListN.{length, getD}
 use borrow.Author.Tests.{eqb-true, ltb-true}
 use Rattle.lists.specs.Tabulate.{tabulate, tabulate-ext, zeros}
-use Rattle.lists.specs.Refusal.{refusalBy, refusal-lowest, grant, grant-yes, grant-no}
+use Rattle.lists.specs.Refusal.{refusal-lowest, grant-yes, grant-no}
 use Rattle.numbers.specs.declared.Layout.{Layout}
 use Rattle.numbers.specs.Layouts.{Valid, frames, imageLength}
 use Rattle.numbers.specs.Refused.{validb, valid-of}

@@ -1,10 +1,9 @@
 -- The characters of a line, part by part.
-use mathlib.Core.Path.{_≡_, refl, sym, ap, _∙_}
-use Prim.Native.Nat.{ℕ, zero, suc, _+_, _*_, _-_, _/_, _%_, _^_, _≤_, _<_}
+use mathlib.Core.Path.{_≡_}
+use Prim.Native.Nat.{ℕ, _+_, _*_, _-_, _/_, _%_, _≤_, _<_}
 use native.Mathlib.Omega.{arith}
-use lib.Dec.{ltb, eqb}
 use borrow.Author.Tests.{lt-ltb, le-ltb, eq-eqb, ne-eqb}
-use Rattle.hexline.specs.Hex.{hexDigit, digitAt, lineChar}
+use Rattle.hexline.specs.Hex.{digitAt, lineChar}
 
 module _ (target frame u : ℕ) (byte : ℕ → ℕ) where
   pub char-target : (i : ℕ) → i < 2 → lineChar target frame u byte i ≡ digitAt target (1 - i)

@@ -1,22 +1,22 @@
 -- Two lines are equal only where target, frame and bytes are: a reader can take a line back.
-use mathlib.Core.Path.{_≡_, refl, sym, ap, _∙_, subst}
+use mathlib.Core.Path.{_≡_, sym, ap, _∙_, subst}
 use mathlib.Core.List.{List}
 use Prim.Native.Nat.{ℕ, zero, suc, _+_, _*_, _-_, _/_, _%_, _^_, _≤_, _<_}
 use native.Mathlib.Nat.{div-add-mod, div-one, div-div-eq-div-mul, pow-succ', mod-lt, zero-lt-suc}
 use native.Mathlib.Omega.{arith}
 use lib.ListN.{length, getD}
 use borrow.Author.Tests.{lt-ltb, le-ltb}
-use Rattle.lists.specs.Pick.{pick, below-or-not}
+use Rattle.lists.specs.Pick.{below-or-not}
 use Rattle.lists.specs.Digits.{div-below, div-of, mod-of}
-use Rattle.lists.specs.Tabulate.{tabulate, getD-tabulate, tabulate-ext}
-use Rattle.lists.specs.Refusal.{grant, grant-yes}
+use Rattle.lists.specs.Tabulate.{getD-tabulate}
+use Rattle.lists.specs.Refusal.{grant-yes}
 use Rattle.numbers.specs.declared.Layout.{Layout}
-use Rattle.numbers.specs.Layouts.{Valid, frames}
+use Rattle.numbers.specs.Layouts.{frames}
 use Rattle.numbers.specs.Shapes.{layout-products}
 use Rattle.hexline.specs.Hex.{hexDigit, digitAt, lineChar}
 use Rattle.hexline.specs.HexLine.{unitByte, hexRefusal, hexLine}
 use Rattle.hexline.specs.HexChars.{char-target, char-frame, char-byte}
-use Rattle.hexline.specs.HexCall.{Accepted, accepted-line}
+use Rattle.hexline.specs.HexCall.{accepted-line}
 
 -- ---- digits
 

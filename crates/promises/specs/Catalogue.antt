@@ -1,7 +1,7 @@
 -- The catalogue: a legal one stays legal, what lookups find after changes, which slots change, and that a continued listing is whole; of
 -- each call, that it answers the lowest refusal number that applies, and that any two outcomes its promise allows are the same.
 use mathlib.Core.Path.{_≡_, refl}
-use mathlib.Core.Bool.{Bool, true, false}
+use mathlib.Core.Bool.{true, false}
 use mathlib.Core.List.{List}
 use Prim.Native.Nat.{ℕ, _≤_, _<_}
 use native.Mathlib.Omega.{arith}
@@ -16,7 +16,7 @@ use Rattle.entries.specs.declared.Changed.{Changed}
 use Rattle.entries.specs.declared.Page.{Page}
 use Rattle.entries.specs.Blank.{blank}
 use Rattle.entries.specs.Key.{keyOf, keyEq}
-use Rattle.entries.specs.Catalogue.{sound, onward, cobs, lookupTests, lookupOf, insertTests, insertNumber, insertOf, insertedList, deleteTests, deleteNumber, deleteOf, deletedList, listingTests, listingOf, listedOut}
+use Rattle.entries.specs.Catalogue.{sound, onward, cobs, lookupTests, lookupOf, insertTests, insertNumber, insertOf, insertedList, deleteTests, deleteNumber, deleteOf, deletedList, listingTests, listingOf}
 use Rattle.entries.specs.Promise.{Lookup, Insert, Delete, Listing}
 use Rattle.entries.specs.Laws as L
 use Rattle.entries.specs.Slots as S

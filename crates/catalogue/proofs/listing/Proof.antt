@@ -15,7 +15,7 @@ use prog.Wp.{Heap, Calls, Loops, WpFn, Tables}
 use ghost.Atoms.{Atoms, sem}
 use contract.Monad.{Fun, fact}
 use contract.Running.{givenOf, tables, tablesOf}
-use types.Kit.{Given, Item, ‵, raw, later, some, _⊛_, ⋆, _$_, _∵_, !, qed, by, move, keep, drop, use1, use2, use3, split, join, rewrite, pick, await, fsplit, fjoin, feqL, suffices, frame, done}
+use types.Kit.{Given, Item, ‵, raw, later, some, _⊛_, ⋆, _$_, _∵_, !, qed, by, move, drop, use1, use2, use3, split, join, rewrite, pick, await, fsplit, fjoin, feqL, suffices, frame, done}
 use types.Part.{whole, sub, look-in, agg}
 use types.Run.{look, init, store, forget, stop, hop, fld, from, load, of-opd, and-then, no-more, addr, assigns, land, returns, enter, alloc1, alloc0, params1, pass1, pass0, free1, free0}
 use types.Tokens.{lft-new, lft-end}

@@ -2,7 +2,7 @@
 -- The loop's variable is a turn: the index, what is kept so far, and its machine value.
 use mathlib.Core.Path.{_≡_, refl, sym, _∙_, ap, subst}
 use Prim.Native.Nat.{ℕ, zero, suc, _+_, _-_, _≤_, _<_, _^_, _*_, zero-le}
-use native.Mathlib.Nat.{le-refl, le-of-lt, le-antisymm, lt-of-le-of-lt, lt-of-lt-of-le, zero-add, add-zero, add-suc, suc-add, not-suc-le-zero, le-of-suc-le-suc}
+use native.Mathlib.Nat.{le-refl, le-of-lt, le-antisymm, lt-of-le-of-lt, lt-of-lt-of-le, add-zero, add-suc, not-suc-le-zero, le-of-suc-le-suc}
 use native.Mathlib.Numerals.{add-one-le, add-one-dec}
 use native.Mathlib.Omega.{arith}
 use mathlib.Core.WellFounded.{WellFounded, InvImage·wf}
@@ -27,7 +27,7 @@ use types.Kit.{Given, Item, Sq, runs, anyQ, atRet, ‵, raw, later, some, _⊛_,
 use types.Part.{whole, sub, look-in}
 use types.Run.{look, look-raw, init, store, forget, stop, hop, fld, from, load, lit, of-opd, and-then, no-more, bin, assigns, assigns-last, land, first, skips, jumps, blocks, branches, exec, Below, again, loops, returns, enter, alloc1, alloc0, params1, pass1, pass0, free1, free0}
 use types.Share.{arr-parts}
-use sound.WpLaws.{WpFn-mono, FmC, fmOf}
+use sound.WpLaws.{WpFn-mono, fmOf}
 use denote.RattleType.{owns}
 use denote.Laws.{Is, shows}
 use denote.Memory.{shares, pointee}
@@ -45,7 +45,7 @@ use denote.Triple.Clauses.{ensured, lasts}
 use denote.Triple.Entry.{Vals, onEntry}
 use denote.Triple.Spec.{Meets, tripleOf}
 use denote.Triple.Table.{entered, cited}
-use denote.Triple.Walked.{says, needs, Stays, stay-none, stay-none-slice, walkOf, goes-none, goes-none-slice, Walks, ends-at, walked, walk-meets}
+use denote.Triple.Walked.{says, Stays, stay-none, stay-none-slice, walkOf, goes-none, goes-none-slice, Walks, ends-at, walked, walk-meets}
 use denote.Exit.{yes}
 use Rattle.entries.specs.declared.Entry.{Entry}
 use Rattle.entries.specs.declared.Key.{Key}
@@ -53,7 +53,7 @@ use Rattle.entries.specs.declared.Look.{Look}
 use Rattle.entries.specs.Blank.{blank}
 use Rattle.lists.specs.Pick.{pick}
 use Rattle.entries.specs.Key.{keyOf, keyLt}
-use Rattle.entries.specs.Look.{leastOf, countedOf, startOf, stepOf, lookOf, scanOf}
+use Rattle.entries.specs.Look.{leastOf, countedOf, startOf, stepOf, lookOf}
 use Rattle.entries.proofs.Entry as T
 use Rattle.entries.proofs.Entry.Laws as T′
 use Rattle.entries.proofs.Key as Y

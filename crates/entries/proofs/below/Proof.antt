@@ -1,9 +1,7 @@
 -- `entries::below` meets its contract: each return is the arm that its tests pick.
-use borrow.Author.Needs.{needs}
-use borrow.Author.Tests.{lt-ltb, le-ltb, le-leb, lt-leb, eq-eqb, ne-eqb}
-use native.Mathlib.Omega.{arith}
-use mathlib.Core.Path.{_≡_, sym}
-use Prim.Native.Nat.{ℕ, _≤_}
+use borrow.Author.Tests.{lt-ltb, le-ltb}
+use mathlib.Core.Path.{_≡_}
+use Prim.Native.Nat.{_≤_}
 use lib.Dec.{ltb}
 use Rattle.entries.specs.declared.Key.{Key}
 use Rattle.entries.specs.Key.{keyLt}

@@ -1,7 +1,5 @@
 -- `entries::is_sound` meets its contract: each return is the arm that its tests pick.
-use borrow.Author.Needs.{needs}
-use borrow.Author.Tests.{lt-ltb, le-ltb, le-leb, lt-leb, eq-eqb, ne-eqb}
-use native.Mathlib.Omega.{arith}
+use borrow.Author.Tests.{le-leb, lt-leb}
 use Rattle.entries.specs.Look.{soundOf}
 use Rattle.entries.proofs.is_sound.Statement.{statement}
 use Rattle.entries.proofs.is_sound.Tie as tie

@@ -1,7 +1,5 @@
 -- `entries::start` meets its contract: each return is the arm that its tests pick.
 use borrow.Author.Needs.{needs}
-use borrow.Author.Tests.{lt-ltb, le-ltb, le-leb, lt-leb, eq-eqb, ne-eqb}
-use native.Mathlib.Omega.{arith}
 use Rattle.entries.proofs.start.Statement.{statement}
 use Rattle.entries.proofs.start.Tie as tie
 

@@ -1,12 +1,10 @@
 -- `entries::wipe` meets its contract: each return is the arm that its tests pick.
 use borrow.Author.Needs.{needs}
-use borrow.Author.Tests.{lt-ltb, le-ltb, le-leb, lt-leb, eq-eqb, ne-eqb}
 use native.Mathlib.Omega.{arith}
-use mathlib.Core.Path.{_≡_, refl, ap, _∙_, subst}
+use mathlib.Core.Path.{_≡_, refl, ap, _∙_}
 use mathlib.Core.List.{List}
-use Prim.Native.Nat.{ℕ, _-_, _<_, _≤_, zero-le}
-use native.Mathlib.Nat.{lt-of-lt-of-le, le-antisymm}
-use native.Mathlib.Numerals.{add-one-le}
+use Prim.Native.Nat.{ℕ, _-_, _≤_, zero-le}
+use native.Mathlib.Nat.{le-antisymm}
 use lib.ListN.{length, set, length-set}
 use borrow.Author.Fill.{fill-none, fill-more}
 use Rattle.entries.specs.Listed.{wiped}

@@ -1,9 +1,9 @@
 -- `hexline::character` meets its contract: each return is the part of the line that its tests pick.
-use Prim.Native.Nat.{ℕ, _+_, _*_, _-_, _/_, _%_, _≤_, _<_}
+use Prim.Native.Nat.{ℕ, _+_, _*_, _-_, _%_, _≤_, _<_}
 use mathlib.Core.Path.{_≡_, sym, ap, _∙_}
 use native.Mathlib.Omega.{arith}
 use borrow.Author.Needs.{needs}
-use Rattle.hexline.specs.Hex.{digitAt, lineChar}
+use Rattle.hexline.specs.Hex.{digitAt}
 use Rattle.hexline.specs.HexChars.{char-target, char-space, char-frame, char-second, char-byte, char-end}
 use Rattle.hexline.proofs.character.Statement.{statement}
 use Rattle.hexline.proofs.character.Tie as tie

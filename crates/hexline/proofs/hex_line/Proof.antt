@@ -1,11 +1,8 @@
 -- `hexline::hex_line` meets its contract. Refused, the line is zeros; accepted, what was tested is what the place and the line ask for.
-use Prim.Native.Nat.{ℕ, _+_, _≤_, _<_}
-use mathlib.Core.Path.{_≡_, refl, sym, _∙_}
+use mathlib.Core.Path.{sym, _∙_}
 use native.Mathlib.Omega.{arith}
 use lib.ListN.{length}
 use borrow.Author.Needs.{needs}
-use Rattle.numbers.specs.declared.Layout.{Layout}
-use Rattle.hexline.specs.HexLine.{HexLine}
 use Rattle.hexline.specs.HexCall.{Accepted, accepted-line, refused-line, unit-fits, written-line}
 use Rattle.hexline.proofs.hex_line.Statement.{statement}
 use Rattle.hexline.proofs.hex_line.Tie as tie

@@ -1,5 +1,5 @@
 -- `hexline::weight` meets its contract: at each place the power is computed.
-use Prim.Native.Nat.{ℕ, _<_, _≤_, _^_}
+use Prim.Native.Nat.{ℕ, _<_, _^_}
 use mathlib.Core.Path.{_≡_, refl, sym, ap, _∙_}
 use native.Mathlib.Omega.{arith}
 use Rattle.hexline.proofs.weight.Statement.{statement}
