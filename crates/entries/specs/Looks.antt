@@ -87,12 +87,14 @@ found-is false xs = refl
 abbrev pub heldOr : Bool → ℕ → Found → Found
 heldOr a c f = pick a (record { refusal = 0; cob = c }) f
 
-held-on : (a b : Bool) (c : ℕ) (r : Entry) (rs : List Entry) → heldOr (a || b) (firstOf a b c (r .cob)) (heldCob rs) ≡ heldOr a c (heldCob (pick b (r ∷ rs) rs))
+held-on : (a b : Bool) (c : ℕ) (r : Entry) (rs : List Entry)
+    → heldOr (a || b) (firstOf a b c (r .cob)) (heldCob rs) ≡ heldOr a c (heldCob (pick b (r ∷ rs) rs))
 held-on true b c r rs = refl
 held-on false true c r rs = refl
 held-on false false c r rs = refl
 
-pub look-held : (x : Look) (xs : List Entry) → heldOr (lookOf x xs .found) (lookOf x xs .cob) (heldCob []) ≡ heldOr (x .found) (x .cob) (heldCob (holders (x .key) xs))
+pub look-held : (x : Look) (xs : List Entry)
+    → heldOr (lookOf x xs .found) (lookOf x xs .cob) (heldCob []) ≡ heldOr (x .found) (x .cob) (heldCob (holders (x .key) xs))
 unfolding lookOf stepOf
 look-held x [] = refl
 look-held x (r ∷ rs) = look-held (stepOf x r) rs ∙ held-on (x .found) (keyEq (keyOf r) (x .key)) (x .cob) r (holders (x .key) rs)
@@ -110,12 +112,14 @@ look-left x (r ∷ rs) = look-left (stepOf x r) rs ∙ left-on (listable (x .key
 more-used : (a : Bool) (l : ℕ) (m : ℕ) → (a || eqb l 0 || ltb (l - 1) m) ≡ (a || ltb l (suc m))
 more-used true l m = refl
 more-used false zero m = sym (lt-ltb 0 (suc m) (omega arith))
-more-used false (suc l) m = ap (λ (b : Bool). b || ltb (suc l - 1) m) (eqb·suc-zero l) ∙ ap (λ (j : ℕ). ltb j m) (less l) ∙ sym (leb·suc-suc (suc l) m)
+more-used false (suc l) m =
+    ap (λ (b : Bool). b || ltb (suc l - 1) m) (eqb·suc-zero l) ∙ ap (λ (j : ℕ). ltb j m) (less l) ∙ sym (leb·suc-suc (suc l) m)
   where
     less : (j : ℕ) → suc j - 1 ≡ j
     less j = omega arith
 
-more-on : (b a : Bool) (l : ℕ) (r : Entry) (rs : List Entry) → (a || beyondOf l b || ltb (fewerOf l b) (length rs)) ≡ (a || ltb l (length (pick b (r ∷ rs) rs)))
+more-on : (b a : Bool) (l : ℕ) (r : Entry) (rs : List Entry)
+    → (a || beyondOf l b || ltb (fewerOf l b) (length rs)) ≡ (a || ltb l (length (pick b (r ∷ rs) rs)))
 more-on true a l r rs = more-used a l (length rs)
 more-on false true l r rs = refl
 more-on false false l r rs = refl
@@ -129,15 +133,21 @@ unfolding lookOf stepOf
 look-more x [] = none-more (x .more) (x .left)
 look-more x (r ∷ rs) = look-more (stepOf x r) rs ∙ more-on (listable (x .key) (keyOf r)) (x .more) (x .left) r (onward (x .key) rs)
 
-next-used : (a : Bool) (l o : ℕ) (r : Entry) (rs : List Entry) → pick (a || eqb l 0) (firstOf a (eqb l 0) o (r .file)) (getD (files rs) (l - 1) (firstOf a (eqb l 0) o (r .file))) ≡ pick a o (getD (files (r ∷ rs)) l o)
+next-used : (a : Bool) (l o : ℕ) (r : Entry) (rs : List Entry)
+    → pick (a || eqb l 0) (firstOf a (eqb l 0) o (r .file)) (getD (files rs) (l - 1) (firstOf a (eqb l 0) o (r .file))) ≡ pick a o (getD (files
+    (r ∷ rs)) l o)
 next-used true l o r rs = refl
 next-used false zero o r rs = refl
-next-used false (suc l) o r rs = ap (λ (b : Bool). pick b (pick b (r .file) o) (getD (files rs) (suc l - 1) (pick b (r .file) o))) (eqb·suc-zero l) ∙ ap (λ (j : ℕ). getD (files rs) j o) (less l)
+next-used false (suc l) o r rs =
+    ap (λ (b : Bool). pick b (pick b (r .file) o) (getD (files rs) (suc l - 1) (pick b (r .file) o))) (eqb·suc-zero l)
+    ∙ ap (λ (j : ℕ). getD (files rs) j o) (less l)
   where
     less : (j : ℕ) → suc j - 1 ≡ j
     less j = omega arith
 
-next-on : (b a : Bool) (l o : ℕ) (r : Entry) (rs : List Entry) → pick (a || beyondOf l b) (firstOf a (beyondOf l b) o (r .file)) (getD (files rs) (fewerOf l b) (firstOf a (beyondOf l b) o (r .file))) ≡ pick a o (getD (files (pick b (r ∷ rs) rs)) l o)
+next-on : (b a : Bool) (l o : ℕ) (r : Entry) (rs : List Entry)
+    → pick (a || beyondOf l b) (firstOf a (beyondOf l b) o (r .file)) (getD (files rs) (fewerOf l b) (firstOf a (beyondOf l b) o
+    (r .file))) ≡ pick a o (getD (files (pick b (r ∷ rs) rs)) l o)
 next-on true a l o r rs = next-used a l o r rs
 next-on false true l o r rs = refl
 next-on false false l o r rs = refl
@@ -152,7 +162,8 @@ look-next x [] = none-next (x .more) (x .next)
 look-next x (r ∷ rs) = look-next (stepOf x r) rs ∙ next-on (listable (x .key) (keyOf r)) (x .more) (x .left) (x .next) r (onward (x .key) rs)
 
 -- ---- a record is below the key, or of the key, or neither
-both-on : (c : Bool) (d : Bool) (r : Entry) (ps qs rs : List Entry) → (c ≡ true → d ≡ false) → length ps + length qs ≤ length rs → length (pick c (r ∷ ps) ps) + length (pick d (r ∷ qs) qs) ≤ suc (length rs)
+both-on : (c : Bool) (d : Bool) (r : Entry) (ps qs rs : List Entry) → (c ≡ true → d ≡ false) → length ps + length qs ≤ length rs
+    → length (pick c (r ∷ ps) ps) + length (pick d (r ∷ qs) qs) ≤ suc (length rs)
 both-on true true r ps qs rs h l = let z : _≡_ {A = ℕ} 0 1 = cc (h refl) in absurd (omega arith)
 both-on true false r ps qs rs h l = omega arith
 both-on false true r ps qs rs h l = omega arith
@@ -199,25 +210,47 @@ module _ (key : Key) (n room : ℕ) (ys : List Entry) where
   scan-sound = cc (scan-n, scan-len, scan-rising)
 
   pub scan-at : scanOf key n room ys .at ≡ length (before key (take n ys))
-  scan-at = look-at (startOf key n (length ys) room) (take (leastOf n (length ys)) ys) ∙ zero-add _ ∙ ap (λ (l : List Entry). length (before key l)) (take-least n ys)
+  scan-at =
+      look-at (startOf key n (length ys) room) (take (leastOf n (length ys)) ys) ∙ zero-add _
+      ∙ ap (λ (l : List Entry). length (before key l)) (take-least n ys)
 
   pub scan-found : scanOf key n room ys .found ≡ nonempty (holders key (take n ys))
-  scan-found = look-found (startOf key n (length ys) room) (take (leastOf n (length ys)) ys) ∙ ap (λ (l : List Entry). nonempty (holders key l)) (take-least n ys)
+  scan-found =
+      look-found (startOf key n (length ys) room) (take (leastOf n (length ys)) ys)
+      ∙ ap (λ (l : List Entry). nonempty (holders key l)) (take-least n ys)
 
   pub scan-held : heldOr (scanOf key n room ys .found) (scanOf key n room ys .cob) (heldCob []) ≡ heldCob (holders key (take n ys))
-  scan-held = look-held (startOf key n (length ys) room) (take (leastOf n (length ys)) ys) ∙ ap (λ (l : List Entry). heldCob (holders key l)) (take-least n ys)
+  scan-held =
+      look-held (startOf key n (length ys) room) (take (leastOf n (length ys)) ys)
+      ∙ ap (λ (l : List Entry). heldCob (holders key l)) (take-least n ys)
 
   pub scan-left : scanOf key n room ys .left ≡ room - length (onward key (take n ys))
-  scan-left = look-left (startOf key n (length ys) room) (take (leastOf n (length ys)) ys) ∙ ap (λ (l : List Entry). room - length (onward key l)) (take-least n ys)
+  scan-left =
+      look-left (startOf key n (length ys) room) (take (leastOf n (length ys)) ys)
+      ∙ ap (λ (l : List Entry). room - length (onward key l)) (take-least n ys)
 
   pub scan-more : scanOf key n room ys .more ≡ ltb room (length (onward key (take n ys)))
-  scan-more = look-more (startOf key n (length ys) room) (take (leastOf n (length ys)) ys) ∙ ap (λ (l : List Entry). ltb room (length (onward key l))) (take-least n ys)
+  scan-more =
+      look-more (startOf key n (length ys) room) (take (leastOf n (length ys)) ys)
+      ∙ ap (λ (l : List Entry). ltb room (length (onward key l))) (take-least n ys)
 
   pub scan-next : scanOf key n room ys .next ≡ getD (files (onward key (take n ys))) room 0
-  scan-next = look-next (startOf key n (length ys) room) (take (leastOf n (length ys)) ys) ∙ ap (λ (l : List Entry). getD (files (onward key l)) room 0) (take-least n ys)
+  scan-next =
+      look-next (startOf key n (length ys) room) (take (leastOf n (length ys)) ys)
+      ∙ ap (λ (l : List Entry). getD (files (onward key l)) room 0) (take-least n ys)
 
   pub scan-placed : placed (scanOf key n room ys)
-  scan-placed = (omega (arith, scan-at, scan-n, both-le key (take n ys), fewer-than), λ f. omega (arith, scan-at, scan-n, both-le key (take n ys), fewer-than, nonempty-pos (holders key (take n ys)) (sym scan-found ∙ f)))
+  scan-placed = (
+    omega (arith, scan-at, scan-n, both-le key (take n ys), fewer-than),
+    λ f. omega (
+      arith,
+      scan-at,
+      scan-n,
+      both-le key (take n ys),
+      fewer-than,
+      nonempty-pos (holders key (take n ys)) (sym scan-found ∙ f),
+    ),
+  )
     where
       fewer-than : length (take n ys) ≤ n
       fewer-than = omega (arith, length-take n ys)

@@ -19,10 +19,12 @@ pub lt-of : (a b : Key) → keyLt a b ≡ true → Lt a b
 unfolding keyLt
 lt-of a b h = first (ltb (a .device) (b .device)) (ltb (b .device) (a .device)) refl refl h
   where
-    first : (s t : Bool) → ltb (a .device) (b .device) ≡ s → ltb (b .device) (a .device) ≡ t → pick s true (pick t false (ltb (a .file) (b .file))) ≡ true → Lt a b
+    first : (s t : Bool) → ltb (a .device) (b .device) ≡ s → ltb (b .device) (a .device) ≡ t
+        → pick s true (pick t false (ltb (a .file) (b .file))) ≡ true → Lt a b
     first true t p q e = by-device (ltb-true _ _ p)
     first false true p q e = let z : _≡_ {A = ℕ} 0 1 = cc in absurd (omega arith)
-    first false false p q e = by-file (omega (arith, ltb-false (a .device) (b .device) p, ltb-false (b .device) (a .device) q)) (ltb-true (a .file) (b .file) e)
+    first false false p q e =
+        by-file (omega (arith, ltb-false (a .device) (b .device) p, ltb-false (b .device) (a .device) q)) (ltb-true (a .file) (b .file) e)
 
 pub of-lt : {a b : Key} → Lt a b → keyLt a b ≡ true
 unfolding keyLt
@@ -52,7 +54,9 @@ unfolding keyEq
 eq-of a b h = fields (eqb (a .device) (b .device)) (eqb (a .file) (b .file)) refl refl h
   where
     fields : (s t : Bool) → eqb (a .device) (b .device) ≡ s → eqb (a .file) (b .file) ≡ t → both s t ≡ true → a ≡ b
-    fields true true p q e = ap {B = Key} (λ (d : ℕ). record { device = d; file = a .file }) (eqb-true (a .device) (b .device) p) ∙ ap {B = Key} (λ (f : ℕ). record { device = b .device; file = f }) (eqb-true (a .file) (b .file) q)
+    fields true true p q e =
+        ap {B = Key} (λ (d : ℕ). record { device = d; file = a .file }) (eqb-true (a .device) (b .device) p)
+        ∙ ap {B = Key} (λ (f : ℕ). record { device = b .device; file = f }) (eqb-true (a .file) (b .file) q)
     fields true false p q e = let z : _≡_ {A = ℕ} 0 1 = cc in absurd (omega arith)
     fields false t p q e = let z : _≡_ {A = ℕ} 0 1 = cc in absurd (omega arith)
 
@@ -63,15 +67,20 @@ eq-refl a = simp (eq-eqb (a .device) (a .device) refl, eq-eqb (a .file) (a .file
 -- of two keys one is below, or they are equal
 pub more-than : (a b : Key) → keyEq a b ≡ false → keyLt a b ≡ false → Lt b a
 unfolding keyLt keyEq
-more-than a b p q = go (ltb (a .device) (b .device)) (ltb (b .device) (a .device)) (ltb (a .file) (b .file)) (eqb (a .device) (b .device)) (eqb (a .file) (b .file)) refl refl refl refl refl p q
+more-than a b p q =
+    go (ltb (a .device) (b .device)) (ltb (b .device) (a .device)) (ltb (a .file) (b .file)) (eqb (a .device) (b .device)) (eqb (a .file)
+    (b .file)) refl refl refl refl refl p q
   where
-    go : (s t u v w : Bool) → ltb (a .device) (b .device) ≡ s → ltb (b .device) (a .device) ≡ t → ltb (a .file) (b .file) ≡ u → eqb (a .device) (b .device) ≡ v → eqb (a .file) (b .file) ≡ w → both v w ≡ false → pick s true (pick t false u) ≡ false → Lt b a
+    go : (s t u v w : Bool) → ltb (a .device) (b .device) ≡ s → ltb (b .device) (a .device) ≡ t → ltb (a .file) (b .file) ≡ u
+        → eqb (a .device) (b .device) ≡ v → eqb (a .file) (b .file) ≡ w → both v w ≡ false → pick s true (pick t false u) ≡ false → Lt b a
     go true t u v w e₁ e₂ e₃ e₄ e₅ p q = let z : _≡_ {A = ℕ} 0 1 = cc in absurd (omega arith)
     go false true u v w e₁ e₂ e₃ e₄ e₅ p q = by-device (ltb-true _ _ e₂)
     go false false true v w e₁ e₂ e₃ e₄ e₅ p q = let z : _≡_ {A = ℕ} 0 1 = cc in absurd (omega arith)
     go false false false true true e₁ e₂ e₃ e₄ e₅ p q = let z : _≡_ {A = ℕ} 0 1 = cc in absurd (omega arith)
-    go false false false true false e₁ e₂ e₃ e₄ e₅ p q = by-file (sym (eqb-true _ _ e₄)) (lt-of-le-ne (ltb-false _ _ e₃) (λ h. eqb-false _ _ e₅ (sym h)))
-    go false false false false w e₁ e₂ e₃ e₄ e₅ p q = absurd (eqb-false (a .device) (b .device) e₄ (omega (arith, ltb-false (a .device) (b .device) e₁, ltb-false (b .device) (a .device) e₂)))
+    go false false false true false e₁ e₂ e₃ e₄ e₅ p q =
+        by-file (sym (eqb-true _ _ e₄)) (lt-of-le-ne (ltb-false _ _ e₃) (λ h. eqb-false _ _ e₅ (sym h)))
+    go false false false false w e₁ e₂ e₃ e₄ e₅ p q =
+        absurd (eqb-false (a .device) (b .device) e₄ (omega (arith, ltb-false (a .device) (b .device) e₁, ltb-false (b .device) (a .device) e₂)))
 
 pub data Cmp (a b : Key) : Type 0 where
   below : keyLt a b ≡ true → keyEq a b ≡ false → keyLt b a ≡ false → Cmp a b
@@ -86,7 +95,9 @@ cmp a b = by-tests (keyEq a b) (keyLt a b) refl refl
     ne false e h = e
 
     by-tests : (s t : Bool) → keyEq a b ≡ s → keyLt a b ≡ t → Cmp a b
-    by-tests true t p q = equal (eq-of a b p) (not-lt a b (λ l. lt-irrefl (subst (λ (z : Key). Lt z b) (eq-of a b p) l))) p (not-lt b a (λ l. lt-irrefl (subst (λ (z : Key). Lt b z) (eq-of a b p) l)))
+    by-tests true t p q =
+        equal (eq-of a b p) (not-lt a b (λ l. lt-irrefl (subst (λ (z : Key). Lt z b) (eq-of a b p) l))) p (not-lt b a (λ l. lt-irrefl (subst (λ
+        (z : Key). Lt b z) (eq-of a b p) l)))
     by-tests false true p q = below q p (not-lt b a (λ l. lt-irrefl (lt-trans (lt-of a b q) l)))
     by-tests false false p q = above q p (of-lt (more-than a b p q))
 
@@ -145,13 +156,22 @@ pub data Reach (k a : Key) : Type 0 where
 
 pub reach : {k a : Key} → Le k a → Reach k a
 unfolding listable
-reach {k} {a} (same e) = near (simp (eq-eqb (a .device) (k .device) (ap (λ (z : Key). z .device) (sym e)), le-leb (k .file) (a .file) (omega (arith, ap (λ (z : Key). z .file) e))))
+reach {k} {a} (same e) =
+    near (simp (
+      eq-eqb (a .device) (k .device) (ap (λ (z : Key). z .device) (sym e)),
+      le-leb (k .file) (a .file) (omega (
+        arith,
+        ap (λ
+            (z : Key). z .file) e,
+      )),
+    ))
 reach {k} {a} (less (by-device l)) = far l
 reach {k} {a} (less (by-file e l)) = near (simp (eq-eqb (a .device) (k .device) (sym e), le-leb (k .file) (a .file) (omega arith)))
 
 -- of the device of k, what is not below k is listed
 not-below : (a b : ℕ) → not (ltb a b) ≡ leb b a
-not-below a b = below-or-not a b (λ (l : a < b). ap not (lt-ltb a b l) ∙ sym (lt-leb b a l)) (λ (l : b ≤ a). ap not (le-ltb a b l) ∙ sym (le-leb b a l))
+not-below a b =
+    below-or-not a b (λ (l : a < b). ap not (lt-ltb a b l) ∙ sym (lt-leb b a l)) (λ (l : b ≤ a). ap not (le-ltb a b l) ∙ sym (le-leb b a l))
 
 pub listed-by : (k a : Key) → a .device ≡ k .device → not (keyLt a k) ≡ listable k a
 unfolding keyLt listable

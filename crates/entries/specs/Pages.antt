@@ -26,11 +26,16 @@ use Rattle.entries.specs.Laws.{lower}
 -- ---- being listed
 pub listed-of : (k a : Key) → listable k a ≡ true → (a .device ≡ k .device) × (k .file ≤ a .file)
 unfolding listable
-listed-of k a h = (eqb-true (a .device) (k .device) (both-true (eqb (a .device) (k .device)) (leb (k .file) (a .file)) h .0), leb-true (k .file) (a .file) (both-true (eqb (a .device) (k .device)) (leb (k .file) (a .file)) h .1))
+listed-of k a h = (
+  eqb-true (a .device) (k .device) (both-true (eqb (a .device) (k .device)) (leb (k .file) (a .file)) h .0),
+  leb-true (k .file) (a .file)
+      (both-true (eqb (a .device) (k .device)) (leb (k .file) (a .file)) h .1),
+)
 
 of-listed : (k a : Key) → a .device ≡ k .device → k .file ≤ a .file → listable k a ≡ true
 unfolding listable
-of-listed k a e l = both-hold (eqb (a .device) (k .device)) (leb (k .file) (a .file)) (eq-eqb (a .device) (k .device) e) (le-leb (k .file) (a .file) l)
+of-listed k a e l =
+    both-hold (eqb (a .device) (k .device)) (leb (k .file) (a .file)) (eq-eqb (a .device) (k .device) e) (le-leb (k .file) (a .file) l)
 
 -- of two keys that are listed, the later one is listed from the earlier one on
 later : (k a b : Key) → listable k a ≡ true → listable k b ≡ true → Lt a b → listable a b ≡ true
@@ -44,7 +49,8 @@ wider : (k a b : Key) → listable k a ≡ true → listable a b ≡ true → li
 wider k a b p q = of-listed k b (listed-of a b q .0 ∙ listed-of k a p .0) (omega (arith, listed-of k a p .1, listed-of a b q .1))
 
 -- ---- a part of a rising list
-part-on : (b : Bool) (a : Key) (x : Entry) (qs : List Entry) → Lt a (keyOf x) → risingFrom (keyOf x) qs ≡ true → risingFrom a (pick b (x ∷ qs) qs) ≡ true
+part-on : (b : Bool) (a : Key) (x : Entry) (qs : List Entry) → Lt a (keyOf x) → risingFrom (keyOf x) qs ≡ true
+    → risingFrom a (pick b (x ∷ qs) qs) ≡ true
 part-on true a x qs l h = cons-rises a x qs l h
 part-on false a x qs l h = lower a (keyOf x) qs l h
 
@@ -91,15 +97,22 @@ tail-all k a (x ∷ ls) p h r = passing-yes (λ y. listable a (keyOf y)) x ls (l
 -- from the key of its element m on, such a list is what follows its first m elements
 from-nth : (k : Key) (m : ℕ) (ls : List Entry) → rising ls ≡ true → Listed k ls → m < length ls → onward (keyOf (getD ls m blank)) ls ≡ drop m ls
 from-nth k m [] r h l = absurd (not-suc-le-zero l)
-from-nth k zero (x ∷ ls) r h l = passing-yes (λ y. listable (keyOf x) (keyOf y)) x ls (of-listed (keyOf x) (keyOf x) refl (omega arith)) ∙ ap {B = List Entry} (λ t. x ∷ t) (tail-all k (keyOf x) ls (h .0) (h .1) r)
-from-nth k (suc m) (x ∷ ls) r h l = passing-no (λ y. listable (keyOf (getD ls m blank)) (keyOf y)) x ls (lt-no (nth-above (keyOf x) m ls r (le-of-suc-le-suc l))) ∙ from-nth k m ls (rising-tail (keyOf x) ls r) (h .1) (le-of-suc-le-suc l)
+from-nth k zero (x ∷ ls) r h l =
+    passing-yes (λ y. listable (keyOf x) (keyOf y)) x ls (of-listed (keyOf x) (keyOf x) refl (omega arith))
+    ∙ ap {B = List Entry} (λ t. x ∷ t) (tail-all k (keyOf x) ls (h .0) (h .1) r)
+from-nth k (suc m) (x ∷ ls) r h l =
+    passing-no (λ y. listable (keyOf (getD ls m blank)) (keyOf y)) x ls (lt-no (nth-above (keyOf x) m ls r (le-of-suc-le-suc l)))
+    ∙ from-nth k m ls (rising-tail (keyOf x) ls r) (h .1) (le-of-suc-le-suc l)
 
 -- ---- the key at which a listing is continued
 abbrev pub nextKey : Key → ℕ → List Entry → Key
 nextKey k m xs = record { device = k .device; file = getD (files (onward k xs)) m 0 }
 
 pub continued : (k : Key) (m : ℕ) (xs : List Entry) → rising xs ≡ true → m < length (onward k xs) → onward (nextKey k m xs) xs ≡ drop m (onward k xs)
-continued k m xs r l = ap (λ (z : Key). onward z xs) key-is ∙ sym (passing-stronger (λ y. listable z (keyOf y)) (λ y. listable k (keyOf y)) xs (λ y h. wider k z (keyOf y) here h)) ∙ from-nth k m (onward k xs) (part-rises (λ y. listable k (keyOf y)) xs r) (all-onward k xs) l
+continued k m xs r l =
+    ap (λ (z : Key). onward z xs) key-is
+    ∙ sym (passing-stronger (λ y. listable z (keyOf y)) (λ y. listable k (keyOf y)) xs (λ y h. wider k z (keyOf y) here h))
+    ∙ from-nth k m (onward k xs) (part-rises (λ y. listable k (keyOf y)) xs r) (all-onward k xs) l
   where
     z : Key
     z = keyOf (getD (onward k xs) m blank)
@@ -108,7 +121,9 @@ continued k m xs r l = ap (λ (z : Key). onward z xs) key-is ∙ sym (passing-st
     here = all-nth k m (onward k xs) (all-onward k xs) l
 
     key-is : nextKey k m xs ≡ z
-    key-is = ap {B = Key} (λ (d : ℕ). record { device = d; file = getD (files (onward k xs)) m 0 }) (sym (listed-of k z here .0)) ∙ ap {B = Key} (λ (f : ℕ). record { device = z .device; file = f }) (List·getD-map (λ (y : Entry). y .file) (onward k xs) m blank)
+    key-is =
+        ap {B = Key} (λ (d : ℕ). record { device = d; file = getD (files (onward k xs)) m 0 }) (sym (listed-of k z here .0))
+        ∙ ap {B = Key} (λ (f : ℕ). record { device = z .device; file = f }) (List·getD-map (λ (y : Entry). y .file) (onward k xs) m blank)
 
 map-drop : (f : Entry → ℕ) (m : ℕ) (ls : List Entry) → map f (drop m ls) ≡ drop m (map f ls)
 map-drop f zero ls = refl
@@ -116,7 +131,9 @@ map-drop f (suc m) [] = refl
 map-drop f (suc m) (x ∷ ls) = map-drop f m ls
 
 pub continued-cobs : (k : Key) (m : ℕ) (xs : List Entry) → rising xs ≡ true → m < length (cobs k xs) → cobs (nextKey k m xs) xs ≡ drop m (cobs k xs)
-continued-cobs k m xs r l = ap (map (λ (y : Entry). y .cob)) (continued k m xs r (subst (λ (j : ℕ). m < j) (length-map (onward k xs) (λ (y : Entry). y .cob)) l)) ∙ map-drop (λ (y : Entry). y .cob) m (onward k xs)
+continued-cobs k m xs r l =
+    ap (map (λ (y : Entry). y .cob)) (continued k m xs r (subst (λ (j : ℕ). m < j) (length-map (onward k xs) (λ (y : Entry). y .cob)) l))
+    ∙ map-drop (λ (y : Entry). y .cob) m (onward k xs)
 
 -- ---- all of them: the outputs of at most t listings into m places, one after the other
 unfoldable pub pages : ℕ → ℕ → Key → List Entry → List ℕ
@@ -130,10 +147,19 @@ pages-all zero m k xs r p l = sym (nothing-left (cobs k xs) l)
     nothing-left : (ls : List ℕ) → length ls ≤ 0 → ls ≡ []
     nothing-left [] h = refl
     nothing-left (x ∷ ls) h = absurd (not-suc-le-zero h)
-pages-all (suc t) m k xs r p l = by-test (ltb m (length (cobs k xs))) refl (λ q. pages-all t m (nextKey k m xs) xs r p (omega (arith, ap length (continued-cobs k m xs r q), length-drop m (cobs k xs))))
+pages-all (suc t) m k xs r p l =
+    by-test (ltb m (length (cobs k xs))) refl (λ q. pages-all t m (nextKey k m xs) xs r p (omega (
+      arith,
+      ap length (continued-cobs k m xs r q),
+      length-drop m (cobs k xs),
+    )))
   where
-    by-test : (b : Bool) → ltb m (length (cobs k xs)) ≡ b → (m < length (cobs k xs) → pages t m (nextKey k m xs) xs ≡ cobs (nextKey k m xs) xs) → take m (cobs k xs) ++ pick b (pages t m (nextKey k m xs) xs) [] ≡ cobs k xs
-    by-test true e i = ap (λ (ls : List ℕ). take m (cobs k xs) ++ ls) (i (ltb-true m (length (cobs k xs)) e) ∙ continued-cobs k m xs r (ltb-true m (length (cobs k xs)) e)) ∙ take-append-drop m (cobs k xs)
+    by-test : (b : Bool) → ltb m (length (cobs k xs)) ≡ b → (m < length (cobs k xs) → pages t m (nextKey k m xs) xs ≡ cobs (nextKey k m xs) xs)
+        → take m (cobs k xs) ++ pick b (pages t m (nextKey k m xs) xs) [] ≡ cobs k xs
+    by-test true e i =
+        ap (λ (ls : List ℕ). take m (cobs k xs) ++ ls) (i (ltb-true m (length (cobs k xs)) e) ∙ continued-cobs k m xs r (ltb-true m (length
+        (cobs k xs)) e))
+        ∙ take-append-drop m (cobs k xs)
     by-test false e i = append-nil (take m (cobs k xs)) ∙ take-all m (cobs k xs) (ltb-false m (length (cobs k xs)) e)
 
 -- ---- from file 0 on these are all the records of the device
@@ -165,10 +191,13 @@ module _ (m : ℕ) (k : Key) (n : ℕ) (ys : List Entry) (s : sound n ys ≡ tru
   accepted : refusalBy (listingTests n ys) ≡ 0
   accepted = refusal-none (listingTests n ys) (s, tt)
 
-  page-is : listingOf k n ys (zeros m) ≡ pageBy 0 (length (take m (cobs k (take n ys)))) (ltb m (length (cobs k (take n ys)))) (getD (files (onward k (take n ys))) m 0)
+  page-is : listingOf k n ys (zeros m) ≡ pageBy 0 (length (take m (cobs k (take n ys)))) (ltb m (length (cobs k (take n ys)))) (getD (files (onward k
+      (take n ys))) m 0)
   page-is =
-      ap (λ (j : ℕ). pageBy (refusalBy (listingTests n ys)) (length (take j (cobs k (take n ys)))) (ltb j (length (cobs k (take n ys)))) (getD (files (onward k (take n ys))) j 0)) (length-tabulate m _)
-      ∙ ap (λ (j : ℕ). pageBy j (length (take m (cobs k (take n ys)))) (ltb m (length (cobs k (take n ys)))) (getD (files (onward k (take n ys))) m 0)) accepted
+      ap (λ (j : ℕ). pageBy (refusalBy (listingTests n ys)) (length (take j (cobs k (take n ys)))) (ltb j (length (cobs k (take n ys)))) (getD (files
+      (onward k (take n ys))) j 0)) (length-tabulate m _)
+      ∙ ap (λ (j : ℕ). pageBy j (length (take m (cobs k (take n ys)))) (ltb m (length (cobs k (take n ys)))) (getD (files (onward k
+      (take n ys))) m 0)) accepted
 
   out-is : listedOut k n ys (zeros m) ≡ over (take m (cobs k (take n ys))) (zeros m)
   out-is =
@@ -185,11 +214,18 @@ visited-pages : (t m : ℕ) (k : Key) (n : ℕ) (ys : List Entry) → sound n ys
 unfolding visited pages
 visited-pages zero m k n ys s = refl
 visited-pages (suc t) m k n ys s =
-    ap (λ (l : List ℕ). l ++ pick (listingOf k n ys (zeros m) .more) (visited t m (record { device = k .device; file = listingOf k n ys (zeros m) .next }) n ys) []) (written-is m k n ys s)
-    ∙ ap (λ (p : Page). take m (cobs k (take n ys)) ++ pick (p .more) (visited t m (record { device = k .device; file = p .next }) n ys) []) (page-is m k n ys s)
-    ∙ ap (λ (l : List ℕ). take m (cobs k (take n ys)) ++ pick (ltb m (length (cobs k (take n ys)))) l []) (visited-pages t m (nextKey k m (take n ys)) n ys s)
+    ap (λ (l : List ℕ). l ++ pick (listingOf k n ys (zeros m) .more) (visited t m (record {
+      device = k .device;
+      file = listingOf k n ys
+          (zeros m) .next;
+    }) n ys) []) (written-is m k n ys s)
+    ∙ ap (λ (p : Page). take m (cobs k (take n ys)) ++ pick (p .more) (visited t m (record { device = k .device; file = p .next }) n ys) [])
+    (page-is m k n ys s)
+    ∙ ap (λ (l : List ℕ). take m (cobs k (take n ys)) ++ pick (ltb m (length (cobs k (take n ys)))) l []) (visited-pages t m (nextKey k m
+    (take n ys)) n ys s)
 
 -- "a listing continued at its next number visits every cob of the device exactly once", in file order
-pub visits-all : (t m : ℕ) (k : Key) (n : ℕ) (ys : List Entry) → sound n ys ≡ true → 0 < m → length (cobs k (take n ys)) ≤ t → visited t m k n ys ≡ cobs k (take n ys)
+pub visits-all : (t m : ℕ) (k : Key) (n : ℕ) (ys : List Entry) → sound n ys ≡ true → 0 < m → length (cobs k (take n ys)) ≤ t
+    → visited t m k n ys ≡ cobs k (take n ys)
 visits-all t m k n ys s p l =
     visited-pages t m k n ys s ∙ pages-all t m k (take n ys) (both-true (leb n (length ys)) (rising (take n ys)) s .1) p l

@@ -37,10 +37,17 @@ module _ (r : Entry) (n : ℕ) (ys : List Entry) (i : ℕ) (d : Entry) (above : 
       beyond (deleteNumber r n ys) (removed r (take n ys) ++ blank ∷ []) ys i d
       (λ e.
       let p = refusal-lowest 1 (deleteTests r n ys) (omega arith) refl .none e in
-      omega (arith, gone r n ys (p .0) (p .1 .0) .size, length-append (removed r (take n ys)) (blank ∷ []), length-append (before (keyOf r) (take n ys)) (after (keyOf r) (take n ys))))
+      omega (
+        arith,
+        gone r n ys (p .0) (p .1 .0) .size,
+        length-append (removed r (take n ys)) (blank ∷ []),
+        length-append (before (keyOf r)
+            (take n ys)) (after (keyOf r) (take n ys)),
+      ))
 
 -- "the slot it frees at the end becomes three zeros": the slot at the new count
-pub delete-frees : (r : Entry) (n : ℕ) (ys : List Entry) (d : Entry) → deleteNumber r n ys ≡ 0 → getD (deletedList r n ys) (deleteOf r n ys .count) d ≡ blank
+pub delete-frees : (r : Entry) (n : ℕ) (ys : List Entry) (d : Entry) → deleteNumber r n ys ≡ 0
+    → getD (deletedList r n ys) (deleteOf r n ys .count) d ≡ blank
 delete-frees r n ys d e =
     subst (λ (m : ℕ). getD (changedList m zs ys) (grant m (length (removed r (take n ys))) n) d ≡ blank) (sym e)
     (ap (λ (l : List Entry). getD l (length (removed r (take n ys))) d) (append-assoc (removed r (take n ys)) (blank ∷ []) (drop (length zs) ys))

@@ -40,7 +40,14 @@ abbrev pub Above : Key → List Entry → Type 0
 Above k xs = (before k xs ≡ []) × ((holders k xs ≡ []) × (after k xs ≡ xs))
 
 above-step : (k : Key) (r : Entry) (rs : List Entry) → Lt k (keyOf r) → Above k rs → Above k (r ∷ rs)
-above-step k r rs l rest = (passing-no (λ x. keyLt (keyOf x) k) r rs (f .1 .1) ∙ rest .0, (passing-no (λ x. keyEq (keyOf x) k) r rs (f .1 .0) ∙ rest .1 .0, passing-yes (λ x. keyLt k (keyOf x)) r rs (f .0) ∙ ap {B = List Entry} (λ t. r ∷ t) (rest .1 .1)))
+above-step k r rs l rest = (
+  passing-no (λ x. keyLt (keyOf x) k) r rs (f .1 .1) ∙ rest .0,
+  (
+    passing-no (λ x. keyEq (keyOf x) k) r rs (f .1 .0) ∙ rest .1 .0,
+    passing-yes
+        (λ x. keyLt k (keyOf x)) r rs (f .0) ∙ ap {B = List Entry} (λ t. r ∷ t) (rest .1 .1),
+  ),
+)
   where
     f : (keyLt k (keyOf r) ≡ true) × ((keyEq (keyOf r) k ≡ false) × (keyLt (keyOf r) k ≡ false))
     f = flips l
@@ -61,13 +68,36 @@ split k [] h = new refl refl
 split k (r ∷ rs) h = by-cmp (cmp (keyOf r) k) (split k rs (rising-tail (keyOf r) rs h))
   where
     by-cmp : Cmp (keyOf r) k → Split k rs → Split k (r ∷ rs)
-    by-cmp (below p q s) (new e f) = new (passing-no (λ x. keyEq (keyOf x) k) r rs q ∙ e) (ap {B = List Entry} (λ t. r ∷ t) f ∙ cc (passing-yes (λ x. keyLt (keyOf x) k) r rs p, passing-no (λ x. keyLt k (keyOf x)) r rs s))
-    by-cmp (below p q s) (old h g e f) = old h g (passing-no (λ x. keyEq (keyOf x) k) r rs q ∙ e) (ap {B = List Entry} (λ t. r ∷ t) f ∙ cc (passing-yes (λ x. keyLt (keyOf x) k) r rs p, passing-no (λ x. keyLt k (keyOf x)) r rs s))
-    by-cmp (equal g p q s) i = old r g (passing-yes (λ x. keyEq (keyOf x) k) r rs q ∙ ap {B = List Entry} (λ t. r ∷ t) (a .1 .0)) (cc (passing-no (λ x. keyLt (keyOf x) k) r rs p, passing-no (λ x. keyLt k (keyOf x)) r rs s, a .0, a .1 .1))
+    by-cmp (below p q s) (new e f) =
+        new (passing-no (λ x. keyEq (keyOf x) k) r rs q ∙ e) (ap {B = List Entry} (λ t. r ∷ t) f ∙ cc (
+          passing-yes (λ x. keyLt (keyOf x) k) r rs p,
+          passing-no (λ x. keyLt k (keyOf x)) r rs s,
+        ))
+    by-cmp (below p q s) (old h g e f) =
+        old h g (passing-no (λ x. keyEq (keyOf x) k) r rs q ∙ e) (ap {B = List Entry} (λ t. r ∷ t) f ∙ cc (
+          passing-yes (λ x. keyLt
+              (keyOf x) k) r rs p,
+          passing-no (λ x. keyLt k (keyOf x)) r rs s,
+        ))
+    by-cmp (equal g p q s) i =
+        old r g (passing-yes (λ x. keyEq (keyOf x) k) r rs q ∙ ap {B = List Entry} (λ t. r ∷ t) (a .1 .0)) (cc (
+          passing-no (λ x. keyLt
+              (keyOf x) k) r rs p,
+          passing-no (λ x. keyLt k (keyOf x)) r rs s,
+          a .0,
+          a .1 .1,
+        ))
       where
         a : (before k rs ≡ []) × ((holders k rs ≡ []) × (after k rs ≡ rs))
         a = above-all k (keyOf r) rs (same (sym g)) h
-    by-cmp (above p q s) i = new (passing-no (λ x. keyEq (keyOf x) k) r rs q ∙ a .1 .0) (cc (passing-no (λ x. keyLt (keyOf x) k) r rs p, passing-yes (λ x. keyLt k (keyOf x)) r rs s, a .0, a .1 .1))
+    by-cmp (above p q s) i =
+        new (passing-no (λ x. keyEq (keyOf x) k) r rs q ∙ a .1 .0) (cc (
+          passing-no (λ x. keyLt (keyOf x) k) r rs p,
+          passing-yes (λ x. keyLt k
+              (keyOf x)) r rs s,
+          a .0,
+          a .1 .1,
+        ))
       where
         a : (before k rs ≡ []) × ((holders k rs ≡ []) × (after k rs ≡ rs))
         a = above-all k (keyOf r) rs (less (lt-of k (keyOf r) s)) h
@@ -80,19 +110,40 @@ pub record Within (ps qs xs : List Entry) : Type 0 where
 
 far-all : (k a : Key) (xs : List Entry) → k .device < a .device → risingFrom a xs ≡ true → onward k xs ≡ []
 far-all k a [] l h = refl
-far-all k a (r ∷ rs) l h = passing-no (λ x. listable k (keyOf x)) r rs (far-no k (keyOf r) (far-on k l (first-lt a r rs h))) ∙ far-all k (keyOf r) rs (far-on k l (first-lt a r rs h)) (rest-rises a r rs h)
+far-all k a (r ∷ rs) l h =
+    passing-no (λ x. listable k (keyOf x)) r rs (far-no k (keyOf r) (far-on k l (first-lt a r rs h)))
+    ∙ far-all k (keyOf r) rs (far-on k l (first-lt a r rs h)) (rest-rises a r rs h)
 
 -- from a record on that is not below k
-onward-step : (k : Key) (r : Entry) (rs : List Entry) → Reach k (keyOf r) → risingFrom (keyOf r) rs ≡ true → Within [] (onward k rs) rs → Within [] (onward k (r ∷ rs)) (r ∷ rs)
-onward-step k r rs (near e) h w = record { rest = w .rest; parts = ap {B = List Entry} (λ t. r ∷ t) (w .parts) ∙ sym (ap (λ (t : List Entry). t ++ w .rest) (passing-yes (λ x. listable k (keyOf x)) r rs e)) }
-onward-step k r rs (far l) h w = record { rest = r ∷ rs; parts = sym (ap (λ (t : List Entry). t ++ r ∷ rs) (passing-no (λ x. listable k (keyOf x)) r rs (far-no k (keyOf r) l) ∙ far-all k (keyOf r) rs l h)) }
+onward-step : (k : Key) (r : Entry) (rs : List Entry) → Reach k (keyOf r) → risingFrom (keyOf r) rs ≡ true → Within [] (onward k rs) rs
+    → Within [] (onward k (r ∷ rs)) (r ∷ rs)
+onward-step k r rs (near e) h w =
+    record {
+      rest = w .rest;
+      parts = ap {B = List Entry} (λ t. r ∷ t) (w .parts) ∙ sym (ap (λ (t : List Entry). t ++ w .rest) (passing-yes
+          (λ x. listable k (keyOf x)) r rs e));
+    }
+onward-step k r rs (far l) h w =
+    record {
+      rest = r ∷ rs;
+      parts = sym (ap (λ (t : List Entry). t ++ r ∷ rs) (passing-no (λ x. listable k (keyOf x)) r rs (far-no k (keyOf r) l)
+          ∙ far-all k (keyOf r) rs l h));
+    }
 
 onward-from : (k a : Key) (xs : List Entry) → Le k a → risingFrom a xs ≡ true → Within [] (onward k xs) xs
 onward-from k a [] l h = record { rest = []; parts = refl }
-onward-from k a (r ∷ rs) l h = onward-step k r rs (reach (less (next-lt k a r rs l h))) (rest-rises a r rs h) (onward-from k (keyOf r) rs (less (next-lt k a r rs l h)) (rest-rises a r rs h))
+onward-from k a (r ∷ rs) l h =
+    onward-step k r rs (reach (less (next-lt k a r rs l h))) (rest-rises a r rs h) (onward-from k (keyOf r) rs (less (next-lt k a r rs l h))
+    (rest-rises a r rs h))
 
-onward-here : (k : Key) (r : Entry) (rs : List Entry) → Le k (keyOf r) → keyLt (keyOf r) k ≡ false → risingFrom (keyOf r) rs ≡ true → Within (before k (r ∷ rs)) (onward k (r ∷ rs)) (r ∷ rs)
-onward-here k r rs l p h = record { rest = w .rest; parts = w .parts ∙ sym (ap (λ (t : List Entry). t ++ (onward k (r ∷ rs) ++ w .rest)) (passing-no (λ x. keyLt (keyOf x) k) r rs p ∙ above-all k (keyOf r) rs l h .0)) }
+onward-here : (k : Key) (r : Entry) (rs : List Entry) → Le k (keyOf r) → keyLt (keyOf r) k ≡ false → risingFrom (keyOf r) rs ≡ true
+    → Within (before k (r ∷ rs)) (onward k (r ∷ rs)) (r ∷ rs)
+onward-here k r rs l p h =
+    record {
+      rest = w .rest;
+      parts = w .parts ∙ sym (ap (λ (t : List Entry). t ++ (onward k (r ∷ rs) ++ w .rest)) (passing-no (λ x. keyLt
+          (keyOf x) k) r rs p ∙ above-all k (keyOf r) rs l h .0));
+    }
   where
     w : Within [] (onward k (r ∷ rs)) (r ∷ rs)
     w = onward-step k r rs (reach l) h (onward-from k (keyOf r) rs l h)
@@ -102,6 +153,14 @@ onward-within k [] h = record { rest = []; parts = refl }
 onward-within k (r ∷ rs) h = by-cmp (cmp (keyOf r) k) (onward-within k rs (rising-tail (keyOf r) rs h))
   where
     by-cmp : Cmp (keyOf r) k → Within (before k rs) (onward k rs) rs → Within (before k (r ∷ rs)) (onward k (r ∷ rs)) (r ∷ rs)
-    by-cmp (below p q s) w = record { rest = w .rest; parts = ap {B = List Entry} (λ t. r ∷ t) (w .parts) ∙ cc (passing-yes (λ x. keyLt (keyOf x) k) r rs p, passing-no (λ x. listable k (keyOf x)) r rs (lt-no (lt-of (keyOf r) k p))) }
+    by-cmp (below p q s) w =
+        record {
+          rest = w .rest;
+          parts = ap {B = List Entry} (λ t. r ∷ t) (w .parts) ∙ cc (
+            passing-yes (λ x. keyLt (keyOf x) k) r rs p,
+            passing-no
+                (λ x. listable k (keyOf x)) r rs (lt-no (lt-of (keyOf r) k p)),
+          );
+        }
     by-cmp (equal g p q s) w = onward-here k r rs (same (sym g)) p h
     by-cmp (above p q s) w = onward-here k r rs (less (lt-of k (keyOf r) s)) p h

@@ -5,6 +5,7 @@ ghost use mathlib.Core.Bool.{_||_};
 ghost use Prim.Native.Nat.{_<_, _≤_, _+_, _^_};
 ghost use lib.Dec.{eqb};
 ghost use lib.ListN.{length};
+ghost use Rattle.entries.specs.Blank.{blank};
 ghost use Rattle.entries.specs.Key.{keyOf, keyLt, keyEq, listable};
 ghost use Rattle.entries.specs.Look.{leastOf, firstOf, fewerOf, beyondOf, risesOf, countedOf, startOf, stepOf, soundOf};
 ghost use Rattle.entries.specs.Listed.{wiped};
@@ -324,12 +325,24 @@ pub fn insertion(x: Look, r: Entry) -> Plan
     }
 }
 
+// Three zeros.
+pub fn blank_entry() -> Entry
+    ensures { λ r. ⌜ r ≡ blank ⌝ }
+{
+    Entry {
+        device: 0,
+        file: 0,
+        cob: 0,
+    }
+}
+
 pub fn deletion(x: Look, r: Entry) -> Plan
     requires { ⌜ placed x ⌝ }
     ensures { λ w. ⌜ w ≡ deletionOf x r ⌝ }
 {
     let sound = is_sound(x);
     let matched = same_cob(x.cob, r.cob);
+    let freed = blank_entry();
     let n = x.n;
     let at = x.at;
     let found = x.found;
@@ -346,11 +359,7 @@ pub fn deletion(x: Look, r: Entry) -> Plan
         from: n - 1,
         count: n - at,
         down: true,
-        first: Entry {
-            device: 0,
-            file: 0,
-            cob: 0,
-        },
+        first: freed,
         refusal: 0,
         total: n - 1,
     }

@@ -25,9 +25,23 @@ module _ (target frame u : ℕ) (byte : ℕ → ℕ) where
   pub char-byte : (i : ℕ) → 9 < i → i < 10 + 2 * u → lineChar target frame u byte i ≡ digitAt (byte ((i - 10) / 2)) (1 - (i - 10) % 2)
   unfolding lineChar
   char-byte i h k =
-      simp (le-ltb i 2 (omega arith), ne-eqb i 2 (λ e. omega (arith, e)), le-ltb i 9 (omega arith), ne-eqb i 9 (λ e. omega (arith, e)), lt-ltb i (10 + 2 * u) k)
+      simp (
+        le-ltb i 2 (omega arith),
+        ne-eqb i 2 (λ e. omega (arith, e)),
+        le-ltb i 9 (omega arith),
+        ne-eqb i 9 (λ e. omega (arith, e)),
+        lt-ltb i
+            (10 + 2 * u) k,
+      )
 
   pub char-end : (i : ℕ) → 10 + 2 * u ≤ i → lineChar target frame u byte i ≡ 10
   unfolding lineChar
   char-end i h =
-      simp (le-ltb i 2 (omega arith), ne-eqb i 2 (λ e. omega (arith, e)), le-ltb i 9 (omega arith), ne-eqb i 9 (λ e. omega (arith, e)), le-ltb i (10 + 2 * u) h)
+      simp (
+        le-ltb i 2 (omega arith),
+        ne-eqb i 2 (λ e. omega (arith, e)),
+        le-ltb i 9 (omega arith),
+        ne-eqb i 9 (λ e. omega (arith, e)),
+        le-ltb i
+            (10 + 2 * u) h,
+      )

@@ -32,8 +32,18 @@ hex-high x h = simp (le-ltb x 10 h)
 pub digit-apart : (x z : ℕ) → x < 16 → z < 16 → hexDigit x ≡ hexDigit z → x ≡ z
 digit-apart x z hx hz e =
     below-or-not x 10
-    (λ (a : x < 10). below-or-not z 10 (λ (b : z < 10). omega (arith, e, hex-low x a, hex-low z b)) (λ (b : 10 ≤ z). omega (arith, e, hex-low x a, hex-high z b)))
-    (λ (a : 10 ≤ x). below-or-not z 10 (λ (b : z < 10). omega (arith, e, hex-high x a, hex-low z b)) (λ (b : 10 ≤ z). omega (arith, e, hex-high x a, hex-high z b)))
+    (λ (a : x < 10). below-or-not z 10 (λ (b : z < 10). omega (arith, e, hex-low x a, hex-low z b)) (λ (b : 10 ≤ z). omega (
+      arith,
+      e,
+      hex-low x a,
+      hex-high z b,
+    )))
+    (λ (a : 10 ≤ x). below-or-not z 10 (λ (b : z < 10). omega (arith, e, hex-high x a, hex-low z b)) (λ (b : 10 ≤ z). omega (
+      arith,
+      e,
+      hex-high x a,
+      hex-high z b,
+    )))
 
 -- equal digits at a place
 same-digit : (x z place : ℕ) → digitAt x place ≡ digitAt z place → x / 16 ^ place % 16 ≡ z / 16 ^ place % 16
@@ -60,7 +70,8 @@ digits-apart (suc n) x z hx hz e =
 
     rest : (place : ℕ) → place < n → digitAt (x / 16) place ≡ digitAt (z / 16) place
     rest place b =
-        ap (λ (w : ℕ). hexDigit (w % 16)) (sym (next-digit x place)) ∙ e (suc place) (omega arith) ∙ ap (λ (w : ℕ). hexDigit (w % 16)) (next-digit z place)
+        ap (λ (w : ℕ). hexDigit (w % 16)) (sym (next-digit x place)) ∙ e (suc place) (omega arith)
+        ∙ ap (λ (w : ℕ). hexDigit (w % 16)) (next-digit z place)
 
 -- ---- lines
 

@@ -111,10 +111,10 @@ fn line_refusal(y: Layout, image: usize, target: u64, frame: u64, line: usize) -
 pub fn hex_line(y: Layout, image: &[u8], target: u64, frame: u64, line: &mut [u8]) -> u64
     ensures { λ r. ⌜ HexLine y (now (image .entry)) target frame (now (line .entry)) r (now (line .exit)) ⌝ }
 {
-    let refusal = line_refusal(y, image.len(), target, frame, line.len());
-    if refusal != 0 {
+    let number = line_refusal(y, image.len(), target, frame, line.len());
+    if number != 0 {
         lists::clear(line);
-        return refusal;
+        return number;
     }
     let here = Place {
         frame: frame,

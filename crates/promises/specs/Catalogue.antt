@@ -108,12 +108,15 @@ module _ (n : ℕ) (ys : List Entry) where
   pub delete-tight : (r : Entry) (c c′ : Changed) (zs zs′ : List Entry) → Delete r n ys c zs → Delete r n ys c′ zs′ → (c ≡ c′) × (zs ≡ zs′)
   delete-tight r c c′ zs zs′ p q = (same (p .answer) (q .answer), same (p .slots) (q .slots))
 
-  pub listing-tight : (k : Key) (old : List ℕ) (p p′ : Page) (new new′ : List ℕ) → Listing k n ys old p new → Listing k n ys old p′ new′ → (p ≡ p′) × (new ≡ new′)
+  pub listing-tight : (k : Key) (old : List ℕ) (p p′ : Page) (new new′ : List ℕ) → Listing k n ys old p new → Listing k n ys old p′ new′
+      → (p ≡ p′) × (new ≡ new′)
   listing-tight k old p p′ new new′ a b = (same (a .answer) (b .answer), same (a .output) (b .output))
 
   -- the same calls on eight slots by value: lookup and listing promise what is above
-  pub shelf-insert-tight : (r : Entry) (b b′ : Shelf) → b ≡ shelfOf (insertedList r n ys) (insertOf r n ys) → b′ ≡ shelfOf (insertedList r n ys) (insertOf r n ys) → b ≡ b′
+  pub shelf-insert-tight : (r : Entry) (b b′ : Shelf) → b ≡ shelfOf (insertedList r n ys) (insertOf r n ys)
+      → b′ ≡ shelfOf (insertedList r n ys) (insertOf r n ys) → b ≡ b′
   shelf-insert-tight r b b′ = same
 
-  pub shelf-delete-tight : (r : Entry) (b b′ : Shelf) → b ≡ shelfOf (deletedList r n ys) (deleteOf r n ys) → b′ ≡ shelfOf (deletedList r n ys) (deleteOf r n ys) → b ≡ b′
+  pub shelf-delete-tight : (r : Entry) (b b′ : Shelf) → b ≡ shelfOf (deletedList r n ys) (deleteOf r n ys)
+      → b′ ≡ shelfOf (deletedList r n ys) (deleteOf r n ys) → b ≡ b′
   shelf-delete-tight r b b′ = same

@@ -42,6 +42,7 @@ module _ (y : Layout) (image : List ℕ) (target frame : ℕ) where
       ((validb y, 1) ∷ (eqb (length image) (imageLength y), 2) ∷ (ltb target (y .p), 4) ∷ (ltb frame (frames y), 4) ∷ (eqb n (11 + 2 * y .u), 5) ∷ [])
       (omega arith) refl
 
-  pub hex-line-tight : (old : List ℕ) (r r′ : ℕ) (new new′ : List ℕ) → HexLine y image target frame old r new → HexLine y image target frame old r′ new′
+  pub hex-line-tight : (old : List ℕ) (r r′ : ℕ) (new new′ : List ℕ) → HexLine y image target frame old r new
+      → HexLine y image target frame old r′ new′
       → (r ≡ r′) × (new ≡ new′)
   hex-line-tight old r r′ new new′ p q = (same (p .answer) (q .answer), same (p .line) (q .line))

@@ -44,30 +44,42 @@ room8 l e = subst (Room T.the-row) (sym e) (lit< tt, lit< tt)
 
 module _ {M : Type 1} (𝓤 : URA M) (H : Heap 𝓤) (A : Atoms 𝓤) (W : Given 𝓤 H A) (l : List Entry) (b : ℕ) where
   -- a local array is its elements, one after the other
-  pub parted : ent 𝓤 (sep 𝓤 (sem 𝓤 H A (fat fullShare tyA b 0 (mach l))) (sem 𝓤 H A (Ar .own l (mach l ∷ [])))) (sem 𝓤 H A (arr-parts (shares T.the-row) 8 .part fullShare l b 0))
+  pub parted : ent 𝓤 (sep 𝓤 (sem 𝓤 H A (fat fullShare tyA b 0 (mach l))) (sem 𝓤 H A (Ar .own l (mach l ∷ [])))) (sem 𝓤 H A (arr-parts
+      (shares T.the-row) 8 .part fullShare l b 0))
   unfolding partOf
   parted =
-      qed W (‵ (fat fullShare tyA b 0 (mach l)) ∷ ‵ (Ar .own l (mach l ∷ [])) ∷ []) ∵ use1 W (‵ (cellAt fullShare (Ar .mir) (mach l ∷ []) b 0)) (W .laws .at-raw fullShare tyA b 0 (mach l)) $ fjoin ! $
+      qed W (‵ (fat fullShare tyA b 0 (mach l)) ∷ ‵ (Ar .own l (mach l ∷ [])) ∷ []) ∵ use1 W (‵ (cellAt fullShare (Ar .mir) (mach l ∷ []) b 0))
+      (W .laws .at-raw fullShare tyA b 0 (mach l)) $
+      fjoin ! $
       fpack ! (List Val) (λ us. fsep (cellAt fullShare (Ar .mir) us b 0) (Ar .own l us)) (mach l ∷ []) $
       use1 W (‵ (arr-parts (shares T.the-row) 8 .part fullShare l b 0)) (array-apart 𝓤 H A W T.the-row fullShare tt 8 l b 0) $ done !
 
   -- and back
-  pub joined : ent 𝓤 (sem 𝓤 H A (arr-parts (shares T.the-row) 8 .part fullShare l b 0)) (sep 𝓤 (sem 𝓤 H A (fat fullShare tyA b 0 (mach l))) (sem 𝓤 H A (Ar .own l (mach l ∷ []))))
+  pub joined : ent 𝓤 (sem 𝓤 H A (arr-parts (shares T.the-row) 8 .part fullShare l b 0)) (sep 𝓤 (sem 𝓤 H A (fat fullShare tyA b 0 (mach l)))
+      (sem 𝓤 H A (Ar .own l (mach l ∷ []))))
   unfolding partOf
   joined =
       qed W (‵ (arr-parts (shares T.the-row) 8 .part fullShare l b 0) ∷ []) ∵
-      use1 W (‵ (partAt Ar fullShare l b 0)) (array-whole 𝓤 H A W T.the-row fullShare 8 l b 0) $ fpick ! (λ vs. fsplit ! $ move ! (1 ∷ []) $ peeks ! Ar (Is Ar) (shows 𝓤 H A Ar) l vs (λ is.
-      rewrite ! 0 (λ (us : List Val). ‵ (Ar .own l us)) (array-tells T.the-row (LL.vals T.the-type T′.the-laws) (LL.tells T.the-type T′.the-laws) 8 l vs is) refl $
-      rewrite ! 1 (λ (us : List Val). ‵ (cellAt fullShare (Ar .mir) us b 0)) (array-tells T.the-row (LL.vals T.the-type T′.the-laws) (LL.tells T.the-type T′.the-laws) 8 l vs is) refl $ move ! (1 ∷ 0 ∷ []) $
+      use1 W (‵ (partAt Ar fullShare l b 0)) (array-whole 𝓤 H A W T.the-row fullShare 8 l b 0) $ fpick ! (λ vs. fsplit ! $ move ! (1 ∷ []) $
+      peeks ! Ar (Is Ar) (shows 𝓤 H A Ar) l vs (λ is.
+      rewrite ! 0 (λ (us : List Val). ‵ (Ar .own l us)) (array-tells T.the-row (LL.vals T.the-type T′.the-laws)
+      (LL.tells T.the-type T′.the-laws) 8 l vs is) refl $
+      rewrite ! 1 (λ (us : List Val). ‵ (cellAt fullShare (Ar .mir) us b 0)) (array-tells T.the-row (LL.vals T.the-type T′.the-laws)
+      (LL.tells T.the-type T′.the-laws) 8 l vs is) refl $
+      move ! (1 ∷ 0 ∷ []) $
       use1 W (‵ (fat fullShare tyA b 0 (mach l))) (W .laws .raw-at fullShare tyA b 0 (mach l)) $ done !))
 
   -- the same as cells, which are lent as a `&mut`
-  pub opened : ent 𝓤 (sep 𝓤 (sem 𝓤 H A (fat fullShare tyA b 0 (mach l))) (sem 𝓤 H A (Ar .own l (mach l ∷ [])))) (sem 𝓤 H A (cells (mem T.the-row) l b 0))
+  pub opened : ent 𝓤 (sep 𝓤 (sem 𝓤 H A (fat fullShare tyA b 0 (mach l))) (sem 𝓤 H A (Ar .own l (mach l ∷ [])))) (sem 𝓤 H A (cells
+      (mem T.the-row) l b 0))
   opened =
-      qed W (‵ (fat fullShare tyA b 0 (mach l)) ∷ ‵ (Ar .own l (mach l ∷ [])) ∷ []) ∵ use2 W (‵ (arr-parts (shares T.the-row) 8 .part fullShare l b 0)) parted $
+      qed W (‵ (fat fullShare tyA b 0 (mach l)) ∷ ‵ (Ar .own l (mach l ∷ [])) ∷ []) ∵ use2 W (‵ (arr-parts
+      (shares T.the-row) 8 .part fullShare l b 0)) parted $
       fsplit ! $ drop ! $ use1 W (‵ (cells (mem T.the-row) l b 0)) (whole-in 𝓤 H A W T.the-row l b 0) $ done !
 
-  pub closed : ent 𝓤 (sem 𝓤 H A (Arr (mem T.the-row) 8 .lies l b 0)) (sep 𝓤 (sem 𝓤 H A (fat fullShare tyA b 0 (mach l))) (sem 𝓤 H A (Ar .own l (mach l ∷ []))))
+  pub closed : ent 𝓤 (sem 𝓤 H A (Arr (mem T.the-row) 8 .lies l b 0)) (sep 𝓤 (sem 𝓤 H A (fat fullShare tyA b 0 (mach l))) (sem 𝓤 H A (Ar .own l
+      (mach l ∷ []))))
   closed =
-      qed W (‵ (Arr (mem T.the-row) 8 .lies l b 0) ∷ []) ∵ fsplit ! $ feqL ! (λ e. use1 W (‵ (row T.the-row fullShare l b 0)) (whole-out 𝓤 H A W T.the-row l b 0) $ feqI ! ℕ (length l) 8 e $ fjoin ! $
+      qed W (‵ (Arr (mem T.the-row) 8 .lies l b 0) ∷ []) ∵ fsplit ! $
+      feqL ! (λ e. use1 W (‵ (row T.the-row fullShare l b 0)) (whole-out 𝓤 H A W T.the-row l b 0) $ feqI ! ℕ (length l) 8 e $ fjoin ! $
       use1 W (‵ (fat fullShare tyA b 0 (mach l)) ⊛ ‵ (Ar .own l (mach l ∷ []))) joined $ split ! $ done !)

@@ -1,4 +1,5 @@
--- `catalogue::list` meets its contract: a walk of its MIR, by hand, with a loop in it. The records are looked into and the numbers' borrow is opened once, before the loop; each turn reads one field of one record and stores one number.
+-- `catalogue::list` meets its contract: a walk of its MIR, by hand, with a loop in it. The records are looked into and the numbers' borrow is
+-- opened once, before the loop; each turn reads one field of one record and stores one number.
 use mathlib.Core.Path.{_≡_, refl, sym, _∙_, ap, subst}
 use Prim.Native.Nat.{ℕ, zero, suc, _+_, _-_, _≤_, _<_, _^_, _*_, zero-le}
 use native.Mathlib.Nat.{le-antisymm, lt-of-le-of-lt, lt-of-lt-of-le, lt-trans, add-zero, add-suc}
@@ -98,10 +99,24 @@ record Turn (m f : ℕ) (ys : List Entry) (os : List ℕ) : Type 0 where
   kept : zs ≡ listed i f ys os
 
 abbrev stayed : Stays (list.ended .signature .params) (list.ended .kept)
-stayed = (stay-none-slice (0 ∷ []) tt (plain (λ _. T.the-row)) yes, (stay-none (λ _. usize) yes, (stay-slice (1 ∷ []) tt (plain (λ _. u64)), (stay-none (λ _. usize) yes, tt))))
+stayed = (
+  stay-none-slice (0 ∷ []) tt (plain (λ _. T.the-row)) yes,
+  (
+    stay-none (λ _. usize) yes,
+    (
+      stay-slice (1 ∷ []) tt (plain (λ _. u64)),
+      (
+        stay-none
+            (λ _. usize) yes,
+        tt,
+      ),
+    ),
+  ),
+)
 
 module _ {M : Type 1} (𝓤 : URA M) (H : Heap 𝓤) (A : Atoms 𝓤) (W : Given 𝓤 H A) (mem : Memory → SProp 𝓤) (run : Routine → Fun 𝓤) (κ κ₂ : Lft) (q q₂ : Share) (b o : ℕ) (γ : GName) (ys : List Entry) (f : ℕ) (b₂ o₂ : ℕ) (γ₂ : GName) (os : List ℕ) (m : ℕ)
-    (gn : Room T.the-row (length ys)) (f-fits : f < 2 ^ 64) (go : Room u64 (length os)) (m-fits : m < 2 ^ 64) (within : (f + m ≤ length ys) × (m ≤ length os)) where
+    (gn : Room T.the-row (length ys)) (f-fits : f < 2 ^ 64) (go : Room u64 (length os)) (m-fits : m < 2 ^ 64) (within : (f + m ≤ length ys) ×
+    (m ≤ length os)) where
   abbrev x : RefT (List Entry) × (ℕ × (RefT (List ℕ) × (ℕ × Unit {0})))
   x = (record { ptr = (b, o); name = γ; now = ys }, (f, (record { ptr = (b₂, o₂); name = γ₂; now = os }, (m, tt))))
 
@@ -118,13 +133,28 @@ module _ {M : Type 1} (𝓤 : URA M) (H : Heap 𝓤) (A : Atoms 𝓤) (W : Given
   abbrev Obs : List ℕ → Item 𝓤
   Obs l = ‵ (fobs γ₂ (codedHoleys u64 .code (heres u64 l)))
 
-  exits : (zs : List ℕ) → length zs ≡ length os → zs ≡ listed m f ys os → ent 𝓤 (⋆ 𝓤 H A (Obs zs ∷ ‵ (fbor κ₂ (Held u64 (length zs) b₂ o₂ γ₂)) ∷ ‵ (flft κ₂ q₂) ∷ ‵ (flft κ q) ∷ Own ∷ [])) (Post vunit)
+  exits : (zs : List ℕ) → length zs ≡ length os → zs ≡ listed m f ys os
+      → ent 𝓤 (⋆ 𝓤 H A (Obs zs ∷ ‵ (fbor κ₂ (Held u64 (length zs) b₂ o₂ γ₂)) ∷ ‵ (flft κ₂ q₂) ∷ ‵ (flft κ q) ∷ Own ∷ [])) (Post vunit)
   exits zs same e =
       qed W (Obs zs ∷ ‵ (fbor κ₂ (Held u64 (length zs) b₂ o₂ γ₂)) ∷ ‵ (flft κ₂ q₂) ∷ ‵ (flft κ q) ∷ Own ∷ []) ∵
-      suffices ! _ (ends-at 𝓤 H A list.ended stayed (list.clauses 𝓤 H A mem run) W (((κ, (κ₂, tt)), (q, (q₂, tt)), tt, x, at), tt) vunit tt (tt, (tt, (zs, (tt, tt)))) (tt, (tt, (same, (tt, tt))))) $ says ! e $
+      suffices ! _ (ends-at 𝓤 H A list.ended stayed (list.clauses 𝓤 H A mem run) W (((κ, (κ₂, tt)), (q, (q₂, tt)), tt, x, at), tt) vunit tt (
+        tt,
+        (
+          tt,
+          (zs, (tt, tt)),
+        ),
+      ) (tt, (tt, (same, (tt, tt))))) $
+      says ! e $
       nothing ! $ move ! (3 ∷ 0 ∷ []) $ join ! $ move ! (3 ∷ 0 ∷ []) $ join ! $ frame ! $
-      fjoin ! $ pureI ! (at-slice u64 (record { ptr = (b₂, o₂); name = γ₂; now = zs }) (at .1 .1 .0)) (tt, (tt, tt)) (ap (λ (j : ℕ). sliceVal (b₂, o₂) j ∷ []) (sym same), subst (Room u64) (sym same) go) $ fjoin ! $
-      nothing ! $ owned ! usize (Is usize) (uint-makes 𝓤 H A W w64) m (vint w64 m ∷ []) (refl, m-fits) $ fjoin ! $ move ! (1 ∷ 0 ∷ []) $ fjoin ! $ owned ! usize (Is usize) (uint-makes 𝓤 H A W w64) f (vint w64 f ∷ []) (refl, f-fits) $ fjoin ! $ move ! (1 ∷ 0 ∷ []) $ fjoin ! $ frame ! $
+      fjoin ! $
+      pureI ! (at-slice u64 (record { ptr = (b₂, o₂); name = γ₂; now = zs }) (at .1 .1 .0)) (tt, (tt, tt)) (
+        ap (λ (j : ℕ). sliceVal (b₂, o₂) j ∷ [])
+            (sym same),
+        subst (Room u64) (sym same) go,
+      ) $
+      fjoin ! $
+      nothing ! $ owned ! usize (Is usize) (uint-makes 𝓤 H A W w64) m (vint w64 m ∷ []) (refl, m-fits) $ fjoin ! $ move ! (1 ∷ 0 ∷ []) $ fjoin ! $
+      owned ! usize (Is usize) (uint-makes 𝓤 H A W w64) f (vint w64 f ∷ []) (refl, f-fits) $ fjoin ! $ move ! (1 ∷ 0 ∷ []) $ fjoin ! $ frame ! $
       feqI ! (List Val) (vunit ∷ []) (vunit ∷ []) refl $ done !
 
   abbrev Tn : Type 0
@@ -156,49 +186,81 @@ module _ {M : Type 1} (𝓤 : URA M) (H : Heap 𝓤) (A : Atoms 𝓤) (W : Given
     Λ = 𝓣 .Λ
 
     abbrev En : Env 𝓤 H
-    En = (tyUnit, l₀) ∷ (slice, l₁) ∷ (word, l₂) ∷ (slice₂, l₃) ∷ (word, l₄) ∷ (word, l₅) ∷ (word, l₆) ∷ (tyBool, l₇) ∷ (word, l₈) ∷ (tyPtr, l₉) ∷ (word, l₁₀) ∷ (word, l₁₁) ∷ (tyPtr, l₁₂) ∷ []
+    En =
+        (tyUnit, l₀) ∷ (slice, l₁) ∷ (word, l₂) ∷ (slice₂, l₃) ∷ (word, l₄) ∷ (word, l₅) ∷ (word, l₆) ∷ (tyBool, l₇) ∷ (word, l₈) ∷ (tyPtr, l₉) ∷
+        (word, l₁₀) ∷ (word, l₁₁) ∷ (tyPtr, l₁₂) ∷ []
 
     -- [the records' row; what shuts; what s owns; the numbers' row; the open borrow; obs; auth; _12; …; down to room for _0; …]
     abbrev At : Tn → List (Item 𝓤)
-    At t = ‵ (row T.the-row q′ ys b o) ∷ ‵ (fobor κ q (arr-parts (shares T.the-row) (length ys) .part q′ ys b o)) ∷ Own ∷ ‵ (row u64 fullShare (t .zs) b₂ o₂) ∷ ‵ (fobor κ₂ q₂ (Held u64 (length os) b₂ o₂ γ₂)) ∷ Obs os ∷ ‵ (fauth γ₂ (codedHoleys u64 .code (heres u64 os)))
-        ∷ ‵ (froom tyPtr l₁₂ 0) ∷ ‵ (fdies tyPtr l₁₂) ∷ ‵ (froom word l₁₁ 0) ∷ ‵ (fdies word l₁₁) ∷ ‵ (froom word l₁₀ 0) ∷ ‵ (fdies word l₁₀) ∷ ‵ (froom tyPtr l₉ 0) ∷ ‵ (fdies tyPtr l₉) ∷ ‵ (froom word l₈ 0) ∷ ‵ (fdies word l₈) ∷ ‵ (froom tyBool l₇ 0) ∷ ‵ (fdies tyBool l₇) ∷ ‵ (froom word l₆ 0) ∷ ‵ (fdies word l₆)
-        ∷ ‵ (fat fullShare word l₅ 0 (vint w64 (t .i))) ∷ ‵ (fdies word l₅) ∷ ‵ (fat fullShare word l₄ 0 (vint w64 m)) ∷ ‵ (fdies word l₄) ∷ ‵ (fat fullShare slice₂ l₃ 0 (sliceVal (b₂, o₂) (length os))) ∷ ‵ (fdies slice₂ l₃) ∷ ‵ (fat fullShare word l₂ 0 (vint w64 f)) ∷ ‵ (fdies word l₂)
+    At t =
+        ‵ (row T.the-row q′ ys b o) ∷ ‵ (fobor κ q (arr-parts (shares T.the-row) (length ys) .part q′ ys b o)) ∷ Own ∷ ‵ (row u64 fullShare
+        (t .zs) b₂ o₂) ∷ ‵ (fobor κ₂ q₂ (Held u64 (length os) b₂ o₂ γ₂)) ∷ Obs os ∷ ‵ (fauth γ₂ (codedHoleys u64 .code (heres u64 os)))
+        ∷ ‵ (froom tyPtr l₁₂ 0) ∷ ‵ (fdies tyPtr l₁₂) ∷ ‵ (froom word l₁₁ 0) ∷ ‵ (fdies word l₁₁) ∷ ‵ (froom word l₁₀ 0) ∷ ‵ (fdies word l₁₀) ∷ ‵
+        (froom tyPtr l₉ 0) ∷ ‵ (fdies tyPtr l₉) ∷ ‵ (froom word l₈ 0) ∷ ‵ (fdies word l₈) ∷ ‵ (froom tyBool l₇ 0) ∷ ‵ (fdies tyBool l₇) ∷ ‵
+        (froom word l₆ 0) ∷ ‵ (fdies word l₆)
+        ∷ ‵ (fat fullShare word l₅ 0 (vint w64 (t .i))) ∷ ‵ (fdies word l₅) ∷ ‵ (fat fullShare word l₄ 0 (vint w64 m)) ∷ ‵ (fdies word l₄) ∷ ‵
+        (fat fullShare slice₂ l₃ 0 (sliceVal (b₂, o₂) (length os))) ∷ ‵ (fdies slice₂ l₃) ∷ ‵ (fat fullShare word l₂ 0 (vint w64 f)) ∷ ‵
+        (fdies word l₂)
         ∷ ‵ (fat fullShare slice l₁ 0 (sliceVal (b, o) (length ys))) ∷ ‵ (fdies slice l₁) ∷ ‵ (froom tyUnit l₀ 0) ∷ ‵ (fdies tyUnit l₀) ∷ []
 
     abbrev Turned : Tn → Out → SProp 𝓤
-    Turned t = afterTurn 𝓤 H (Below 𝓤 H A Nearer At t) (afterBlock 𝓤 H (afterSeq 𝓤 H (Wp 𝓤 H C Λ En mir.t-3 (atReturn 𝓤 H En Post)) (atReturn 𝓤 H En Post)))
+    Turned t =
+        afterTurn 𝓤 H (Below 𝓤 H A Nearer At t) (afterBlock 𝓤 H (afterSeq 𝓤 H (Wp 𝓤 H C Λ En mir.t-3 (atReturn 𝓤 H En Post)) (atReturn 𝓤 H En Post)))
 
     turns : (t : Tn) → Sq W (At t) (runs C Λ En mir.turn-1 (anyQ (Turned t)))
     unfolding afterTurn
     turns t =
-        assigns ! (bin ! (load ! (from ! (stop !)) (look ! 21 refl)) (load ! (from ! (stop !)) (look ! 23 refl)) tt) (from ! (stop !)) (init ! 17 refl (tt, tt)) $
+        assigns ! (bin ! (load ! (from ! (stop !)) (look ! 21 refl)) (load ! (from ! (stop !)) (look ! 23 refl)) tt) (from ! (stop !))
+        (init ! 17 refl (tt, tt)) $
         first ! $ branches ! (load ! (from ! (stop !)) (look ! 17 refl))
         (λ less. skips ! $ exec ! C Λ En (tail (tail mir.turn-1)) (anyQ (Turned t)) $
-        assigns ! (bin ! (load ! (from ! (stop !)) (look ! 27 refl)) (load ! (from ! (stop !)) (look ! 21 refl)) (record { fits = sum-fits less })) (from ! (stop !)) (init ! 19 refl (tt, record { fits = sum-fits less })) $
-        assigns ! (bin ! (load ! (from ! (stop !)) (look ! 19 refl)) (lit ! tt) (record { fits = room less })) (from ! (stop !)) (init ! 15 refl (tt, record { fits = room less })) $
-        assigns ! (bin ! (load ! (from ! (fld ! refl (stop !))) (look-in ! 29 (sub ! 0 refl (whole !)))) (load ! (from ! (stop !)) (look ! 15 refl)) tt) (from ! (stop !)) (init ! 13 refl (tt, tt)) $
+        assigns ! (bin ! (load ! (from ! (stop !)) (look ! 27 refl)) (load ! (from ! (stop !)) (look ! 21 refl)) (record { fits = sum-fits less }))
+        (from ! (stop !)) (init ! 19 refl (tt, record { fits = sum-fits less })) $
+        assigns ! (bin ! (load ! (from ! (stop !)) (look ! 19 refl)) (lit ! tt) (record { fits = room less })) (from ! (stop !)) (init ! 15 refl (
+          tt,
+          record { fits = room less },
+        )) $
+        assigns ! (bin ! (load ! (from ! (fld ! refl (stop !))) (look-in ! 29 (sub ! 0 refl (whole !)))) (load ! (from ! (stop !))
+        (look ! 15 refl)) tt) (from ! (stop !)) (init ! 13 refl (tt, tt)) $
         rewrite ! 13 (λ (p : ℕ). ‵ (fat fullShare tyPtr l₉ 0 (vptr b p))) (sym (place-is 24 o (f + t .i))) refl $
-        elem-out ! T.the-row (Is T.the-row) (shows 𝓤 H A T.the-row) (LL.vals T.the-type T′.the-laws) (LL.tells T.the-type T′.the-laws) q′ ys (f + t .i) blank b o (there less) (λ g.
+        elem-out ! T.the-row (Is T.the-row) (shows 𝓤 H A T.the-row) (LL.vals T.the-type T′.the-laws) (LL.tells T.the-type T′.the-laws) q′ ys
+        (f + t .i) blank b o (there less) (λ g.
         -- [s[at]; what it owns; the others; …]: one field of it is read
-        assigns ! (of-opd ! (load ! (from ! (hop ! (look ! 15 refl) (fld ! refl (stop !)))) (look-in ! 0 (sub ! 2 refl (whole !))))) (from ! (stop !)) (init ! 13 refl (tt, record { fits = cob-fits g })) $
+        assigns ! (of-opd ! (load ! (from ! (hop ! (look ! 15 refl) (fld ! refl (stop !)))) (look-in ! 0 (sub ! 2 refl (whole !))))) (from !
+        (stop !)) (init ! 13 refl (tt, record { fits = cob-fits g })) $
         elem-back ! T.the-row q′ ys (f + t .i) blank (T′.lowered elem ∷ []) b o (there less) $
-        assigns ! (bin ! (load ! (from ! (stop !)) (look ! 21 refl)) (lit ! tt) (record { fits = room₂ less })) (from ! (stop !)) (init ! 9 refl (tt, record { fits = room₂ less })) $
-        assigns ! (bin ! (load ! (from ! (fld ! refl (stop !))) (look-in ! 25 (sub ! 0 refl (whole !)))) (load ! (from ! (stop !)) (look ! 9 refl)) tt) (from ! (stop !)) (init ! 7 refl (tt, tt)) $
+        assigns ! (bin ! (load ! (from ! (stop !)) (look ! 21 refl)) (lit ! tt) (record { fits = room₂ less })) (from ! (stop !)) (init ! 9 refl (
+          tt,
+          record { fits = room₂ less },
+        )) $
+        assigns ! (bin ! (load ! (from ! (fld ! refl (stop !))) (look-in ! 25 (sub ! 0 refl (whole !)))) (load ! (from ! (stop !))
+        (look ! 9 refl)) tt) (from ! (stop !)) (init ! 7 refl (tt, tt)) $
         rewrite ! 7 (λ (p : ℕ). ‵ (fat fullShare tyPtr l₁₂ 0 (vptr b₂ p))) (sym (place-is 8 o₂ (t .i))) refl $
-        move ! (3 ∷ []) $ elem-out ! u64 (Is u64) (shows 𝓤 H A u64) (uint-vals w64) (uint-tells w64) fullShare (t .zs) (t .i) 0 b₂ o₂ (here less) (λ _.
+        move ! (3 ∷ []) $
+        elem-out ! u64 (Is u64) (shows 𝓤 H A u64) (uint-vals w64) (uint-tells w64) fullShare (t .zs) (t .i) 0 b₂ o₂ (here less) (λ _.
         -- [out[i]; what it owns; the others; the records' row; …]
-        assigns ! (of-opd ! (load ! (from ! (stop !)) (look ! 13 refl))) (from ! (hop ! (look ! 9 refl) (stop !))) (store ! 0 refl (tt, record { fits = cob-fits g })) $
-        move ! (1 ∷ []) $ drop ! $ owned ! u64 (Is u64) (uint-makes 𝓤 H A W w64) (elem .cob) (vint w64 (elem .cob) ∷ []) (refl, cob-fits g) $ move ! (1 ∷ 0 ∷ []) $ elem-put ! u64 fullShare (t .zs) (t .i) (elem .cob) (vint w64 (elem .cob) ∷ []) b₂ o₂ (here less) $
+        assigns ! (of-opd ! (load ! (from ! (stop !)) (look ! 13 refl))) (from ! (hop ! (look ! 9 refl) (stop !))) (store ! 0 refl (
+          tt,
+          record
+              { fits = cob-fits g },
+        )) $
+        move ! (1 ∷ []) $ drop ! $ owned ! u64 (Is u64) (uint-makes 𝓤 H A W w64) (elem .cob) (vint w64 (elem .cob) ∷ []) (refl, cob-fits g) $
+        move ! (1 ∷ 0 ∷ []) $ elem-put ! u64 fullShare (t .zs) (t .i) (elem .cob) (vint w64 (elem .cob) ∷ []) b₂ o₂ (here less) $
         move ! (1 ∷ 2 ∷ 3 ∷ 0 ∷ []) $
-        assigns-last ! (bin ! (load ! (from ! (stop !)) (look ! 21 refl)) (lit ! tt) (record { fits = small (next less) })) (from ! (stop !)) (store ! 21 refl (tt, record { fits = small (next less) })) $
+        assigns-last ! (bin ! (load ! (from ! (stop !)) (look ! 21 refl)) (lit ! tt) (record { fits = small (next less) })) (from ! (stop !))
+        (store ! 21 refl (tt, record { fits = small (next less) })) $
         forget ! 7 refl $ forget ! 9 refl $ forget ! 11 refl $ forget ! 13 refl $ forget ! 15 refl $ forget ! 17 refl $ forget ! 19 refl $
         again ! Nearer At t (next less) (add-one-dec m (t .i) (ltb→lt (t .i) m less)))))
         (λ over. jumps ! $ exec ! C Λ En mir.t-3 (atRet En Post) $
         assigns ! (of-opd ! (unit-lit !)) (from ! (stop !)) (init ! 31 refl (tt, tt)) $
         shuts-slice ! tt T.the-row q′ ys b o $ move ! (2 ∷ 3 ∷ 4 ∷ 5 ∷ []) $ closes-slice ! tt u64 os (t .zs) (t .same) b₂ o₂ $
         -- [obs; the borrow; the numbers' token; the records' token; what s owns; _12; …]
-        returns ! (look ! 29 refl) $ forget ! 15 refl $ forget ! 19 refl $ forget ! 21 refl $ forget ! 23 refl $ forget ! 25 refl $ forget ! 27 refl $ forget ! 29 refl $
-        move ! (29 ∷ 30 ∷ []) $ free1 ! $ move ! (27 ∷ 28 ∷ []) $ free1 ! $ move ! (25 ∷ 26 ∷ []) $ free1 ! $ move ! (23 ∷ 24 ∷ []) $ free1 ! $ move ! (21 ∷ 22 ∷ []) $ free1 ! $ move ! (19 ∷ 20 ∷ []) $ free1 ! $ move ! (17 ∷ 18 ∷ []) $ free1 ! $ move ! (15 ∷ 16 ∷ []) $ free1 ! $ move ! (13 ∷ 14 ∷ []) $ free1 ! $ move ! (11 ∷ 12 ∷ []) $ free1 ! $ move ! (9 ∷ 10 ∷ []) $ free1 ! $ move ! (7 ∷ 8 ∷ []) $ free1 ! $ move ! (5 ∷ 6 ∷ []) $ free1 ! $ free0 ! $
+        returns ! (look ! 29 refl) $ forget ! 15 refl $ forget ! 19 refl $ forget ! 21 refl $ forget ! 23 refl $ forget ! 25 refl $ forget ! 27 refl $
+        forget ! 29 refl $
+        move ! (29 ∷ 30 ∷ []) $ free1 ! $ move ! (27 ∷ 28 ∷ []) $ free1 ! $ move ! (25 ∷ 26 ∷ []) $ free1 ! $ move ! (23 ∷ 24 ∷ []) $ free1 ! $
+        move ! (21 ∷ 22 ∷ []) $ free1 ! $ move ! (19 ∷ 20 ∷ []) $ free1 ! $ move ! (17 ∷ 18 ∷ []) $ free1 ! $ move ! (15 ∷ 16 ∷ []) $ free1 ! $
+        move ! (13 ∷ 14 ∷ []) $ free1 ! $ move ! (11 ∷ 12 ∷ []) $ free1 ! $ move ! (9 ∷ 10 ∷ []) $ free1 ! $ move ! (7 ∷ 8 ∷ []) $ free1 ! $
+        move ! (5 ∷ 6 ∷ []) $ free1 ! $ free0 ! $
         by ! (exits (t .zs) (t .same) (t .kept ∙ ap (λ (j : ℕ). listed j f ys os) (le-antisymm (t .upto) (nltb→le (t .i) m over)))))
       where
         elem : Entry
@@ -237,29 +299,67 @@ module _ {M : Type 1} (𝓤 : URA M) (H : Heap 𝓤) (A : Atoms 𝓤) (W : Given
     looped : Sq W (At start) (runs C Λ En mir.t-2 (atRet En Post))
     looped = first ! $ blocks ! $ loops ! 𝓣 Nearer Nearer-wf At turns start
 
-  walk : (𝓣 : Tables 𝓤 H) → ent 𝓤 (onEntry 𝓤 H A list.signature (κ, (κ₂, tt)) (q, (q₂, tt)) x at) (WpFn 𝓤 H (𝓣 .C) (𝓣 .Λ) code.function (sliceVal (b, o) (length ys) ∷ vint w64 f ∷ sliceVal (b₂, o₂) (length os) ∷ vint w64 m ∷ []) Post)
+  walk : (𝓣 : Tables 𝓤 H)
+      → ent 𝓤 (onEntry 𝓤 H A list.signature (κ, (κ₂, tt)) (q, (q₂, tt)) x at) (WpFn 𝓤 H (𝓣 .C) (𝓣 .Λ) code.function (sliceVal (b, o)
+      (length ys) ∷ vint w64 f ∷ sliceVal (b₂, o₂) (length os) ∷ vint w64 m ∷ []) Post)
   walk 𝓣 =
-      qed W ((‵ (flft κ q) ⊛ ‵ (flft κ₂ q₂) ⊛ ‵ ftrue) ∷ ‵ (owns (ShrSlice (named 0) κ T.the-row ∷ usize ∷ MutSlice (named 1) κ₂ u64 ∷ usize ∷ []) x at) ∷ []) ∵ enter ! (𝓣 .C) (𝓣 .Λ) code.function (sliceVal (b, o) (length ys) ∷ vint w64 f ∷ sliceVal (b₂, o₂) (length os) ∷ vint w64 m ∷ []) _ $
-      alloc1 ! (λ l₀. alloc1 ! (λ l₁. alloc1 ! (λ l₂. alloc1 ! (λ l₃. alloc1 ! (λ l₄. alloc1 ! (λ l₅. alloc1 ! (λ l₆. alloc1 ! (λ l₇. alloc1 ! (λ l₈. alloc1 ! (λ l₉. alloc1 ! (λ l₁₀. alloc1 ! (λ l₁₁. alloc1 ! (λ l₁₂. alloc0 ! $ params1 ! $
-      pass1 ! (init ! 22 refl (tt, (tt, (record { fits = gn .0 }, tt)))) $ pass1 ! (init ! 20 refl (tt, record { fits = f-fits })) $ pass1 ! (init ! 18 refl (tt, (tt, (record { fits = go .0 }, tt)))) $ pass1 ! (init ! 16 refl (tt, record { fits = m-fits })) $ pass0 ! $
+      qed W ((‵ (flft κ q) ⊛ ‵ (flft κ₂ q₂) ⊛ ‵ ftrue) ∷ ‵ (owns (ShrSlice (named 0) κ T.the-row ∷ usize ∷ MutSlice
+      (named 1) κ₂ u64 ∷ usize ∷ []) x at) ∷ []) ∵ enter ! (𝓣 .C) (𝓣 .Λ) code.function (sliceVal (b, o) (length ys) ∷ vint w64 f ∷ sliceVal (b₂, o₂)
+      (length os) ∷ vint w64 m ∷ []) _ $
+      alloc1 ! (λ l₀. alloc1 ! (λ l₁. alloc1 ! (λ l₂. alloc1 ! (λ l₃. alloc1 ! (λ l₄. alloc1 ! (λ l₅. alloc1 ! (λ l₆. alloc1 ! (λ l₇. alloc1 !
+      (λ l₈. alloc1 ! (λ l₉. alloc1 ! (λ l₁₀. alloc1 ! (λ l₁₁. alloc1 ! (λ l₁₂. alloc0 ! $
+      params1 ! $
+      pass1 ! (init ! 22 refl (tt, (tt, (record { fits = gn .0 }, tt)))) $ pass1 ! (init ! 20 refl (tt, record { fits = f-fits })) $
+      pass1 ! (init ! 18 refl (tt, (tt, (record { fits = go .0 }, tt)))) $ pass1 ! (init ! 16 refl (tt, record { fits = m-fits })) $ pass0 ! $
       assigns ! (of-opd ! (lit ! tt)) (from ! (stop !)) (init ! 14 refl (tt, record { fits = lit< tt })) $
       -- the records are had twice: a copy is kept whole, and the other is looked into
       move ! (27 ∷ []) $ fsplit ! $ use1 W (Own ⊛ Own) (shr-slice-copy 𝓤 H A W (named 0) κ T.the-row .twice (x .0) (at .0)) $ split ! $
       fsplit ! $ drop ! $ fsplit ! $ drop ! $ move ! (29 ∷ []) $ split ! $ move ! (2 ∷ 0 ∷ []) $
-      looks-slice ! tt T.the-row (Is T.the-row) (shows 𝓤 H A T.the-row) (LL.vals T.the-type T′.the-laws) (LL.tells T.the-type T′.the-laws) (LL.copy T.the-type T′.the-copy 𝓤 H A W) ys b o (λ q′.
+      looks-slice ! tt T.the-row (Is T.the-row) (shows 𝓤 H A T.the-row) (LL.vals T.the-type T′.the-laws) (LL.tells T.the-type T′.the-laws)
+      (LL.copy T.the-type T′.the-copy 𝓤 H A W) ys b o (λ q′.
       -- [the row; what shuts; the fractured borrow; the numbers' token, true; what s owns; the others'; _12; …]: the numbers' borrow is opened
-      move ! (5 ∷ []) $ fsplit ! $ drop ! $ fsplit ! $ fsplit ! $ drop ! $ fsplit ! $ move ! (6 ∷ []) $ split ! $ move ! (2 ∷ 3 ∷ 0 ∷ []) $ opens-slice ! tt u64 os b₂ o₂ $
+      move ! (5 ∷ []) $ fsplit ! $ drop ! $ fsplit ! $ fsplit ! $ drop ! $ fsplit ! $ move ! (6 ∷ []) $ split ! $ move ! (2 ∷ 3 ∷ 0 ∷ []) $
+      opens-slice ! tt u64 os b₂ o₂ $
       -- [the numbers' row; the open borrow; obs; auth; true; count's; the row; what shuts; the fractured borrow; what s owns; _12; …]
-      keep ! (6 ∷ 7 ∷ 9 ∷ 0 ∷ 1 ∷ 2 ∷ 3 ∷ 10 ∷ 11 ∷ 12 ∷ 13 ∷ 14 ∷ 15 ∷ 16 ∷ 17 ∷ 18 ∷ 19 ∷ 20 ∷ 21 ∷ 22 ∷ 23 ∷ 24 ∷ 25 ∷ 26 ∷ 27 ∷ 28 ∷ 29 ∷ 30 ∷ 31 ∷ 32 ∷ 33 ∷ 34 ∷ 35 ∷ []) $ looped 𝓣 q′ l₀ l₁ l₂ l₃ l₄ l₅ l₆ l₇ l₈ l₉ l₁₀ l₁₁ l₁₂))))))))))))))
+      keep ! (6 ∷ 7 ∷ 9 ∷ 0 ∷ 1 ∷ 2 ∷ 3 ∷ 10 ∷ 11 ∷ 12 ∷ 13 ∷ 14 ∷ 15 ∷ 16 ∷ 17 ∷ 18 ∷ 19 ∷ 20 ∷ 21 ∷ 22 ∷ 23 ∷ 24 ∷ 25 ∷ 26 ∷ 27 ∷ 28 ∷ 29 ∷ 30 ∷ 31 ∷ 32 ∷ 33 ∷ 34 ∷ 35 ∷ []) $
+      looped 𝓣 q′ l₀ l₁ l₂ l₃ l₄ l₅ l₆ l₇ l₈ l₉ l₁₀ l₁₁ l₁₂))))))))))))))
 
 module _ {M : Type 1} (𝓤 : URA M) (H : Heap 𝓤) (A : Atoms 𝓤) (W : Given 𝓤 H A) (mem : Memory → SProp 𝓤) (run : Routine → Fun 𝓤) (𝓣 : Tables 𝓤 H) where
   list-walks : Walks 𝓤 H A list.ended stayed (WpFn 𝓤 H (𝓣 .C) (𝓣 .Λ) code.function) (list.clauses 𝓤 H A mem run)
-  list-walks = walked 𝓤 H A list.ended stayed (list.clauses 𝓤 H A mem run) (WpFn 𝓤 H (𝓣 .C) (𝓣 .Λ) code.function) (λ κs. (slice-vals, (uint-vals w64, (slice-vals, (uint-vals w64, tt))))) (λ κs. (shr-slice-tells (named 0) (κs .0) T.the-row, (uint-tells w64, (mut-slice-tells (named 1) (κs .1 .0) u64, (uint-tells w64, tt)))))
+  list-walks =
+      walked 𝓤 H A list.ended stayed (list.clauses 𝓤 H A mem run) (WpFn 𝓤 H (𝓣 .C) (𝓣 .Λ) code.function) (λ κs. (
+        slice-vals,
+        (
+          uint-vals w64,
+          (slice-vals, (uint-vals w64, tt)),
+        ),
+      )) (λ κs. (
+        shr-slice-tells (named 0) (κs .0) T.the-row,
+        (
+          uint-tells w64,
+          (
+            mut-slice-tells (named 1)
+                (κs .1 .0) u64,
+            (uint-tells w64, tt),
+          ),
+        ),
+      ))
       (λ κs qs bounds a g are. needs 𝓤 ((a .1 .0 + a .1 .1 .1 .0 ≤ length (a .0 .now)) × (a .1 .1 .1 .0 ≤ length (a .1 .1 .0 .now))) _ (λ within.
-      walk 𝓤 H A W mem run (κs .0) (κs .1 .0) (qs .0) (qs .1 .0) (a .0 .ptr .0) (a .0 .ptr .1) (a .0 .name) (a .0 .now) (a .1 .0) (a .1 .1 .0 .ptr .0) (a .1 .1 .0 .ptr .1) (a .1 .1 .0 .name) (a .1 .1 .0 .now) (a .1 .1 .1 .0) (are .0 .0 .1) (are .1 .0 .1) (are .1 .1 .0 .0 .1) (are .1 .1 .1 .0 .1) within 𝓣))
+      walk 𝓤 H A W mem run (κs .0) (κs .1 .0) (qs .0) (qs .1 .0) (a .0 .ptr .0) (a .0 .ptr .1) (a .0 .name) (a .0 .now) (a .1 .0)
+      (a .1 .1 .0 .ptr .0) (a .1 .1 .0 .ptr .1) (a .1 .1 .0 .name) (a .1 .1 .0 .now) (a .1 .1 .1 .0) (are .0 .0 .1) (are .1 .0 .1)
+      (are .1 .1 .0 .0 .1) (are .1 .1 .1 .0 .1) within 𝓣))
 
   list-meets : Meets 𝓤 H A list.signature (WpFn 𝓤 H (𝓣 .C) (𝓣 .Λ) code.function) (list.spec 𝓤 H A mem run)
-  list-meets = walk-meets 𝓤 H A list.ended stayed W (goes-none-slice 𝓤 H A W 2 (0 ∷ []) tt (plain (λ _. T.the-row)) yes, (goes-none 𝓤 H A W 2 (λ _. usize) yes (λ κs x f. refl), (goes-slice 𝓤 H A W 2 1 tt (plain (λ _. u64)), (goes-none 𝓤 H A W 2 (λ _. usize) yes (λ κs x f. refl), tt)))) (list.clauses 𝓤 H A mem run) (WpFn 𝓤 H (𝓣 .C) (𝓣 .Λ) code.function) (WpFn-mono 𝓤 H (W .laws) 𝓣 code.function) list-walks
+  list-meets =
+      walk-meets 𝓤 H A list.ended stayed W (
+        goes-none-slice 𝓤 H A W 2 (0 ∷ []) tt (plain (λ _. T.the-row)) yes,
+        (
+          goes-none 𝓤 H A W 2 (λ _. usize) yes
+              (λ κs x f. refl),
+          (goes-slice 𝓤 H A W 2 1 tt (plain (λ _. u64)), (goes-none 𝓤 H A W 2 (λ _. usize) yes (λ κs x f. refl), tt)),
+        ),
+      )
+      (list.clauses 𝓤 H A mem run) (WpFn 𝓤 H (𝓣 .C) (𝓣 .Λ) code.function) (WpFn-mono 𝓤 H (W .laws) 𝓣 code.function) list-walks
 
 pub list-spec : {M : Type 1} → stated.statement M
 unfolding code.routine tablesOf

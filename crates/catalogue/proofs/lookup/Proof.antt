@@ -1,4 +1,5 @@
--- `catalogue::lookup` meets its contract: a walk of its MIR, by hand. The slice is passed on to `scan` at its own lifetime, a copy of what it owns being kept; `answer` is called on values.
+-- `catalogue::lookup` meets its contract: a walk of its MIR, by hand. The slice is passed on to `scan` at its own lifetime, a copy of what it
+-- owns being kept; `answer` is called on values.
 use mathlib.Core.Path.{_≡_, refl, _∙_, ap}
 use Prim.Native.Nat.{ℕ, _<_, _^_}
 use mathlib.Core.List.{List, [], _∷_}
@@ -74,7 +75,8 @@ module _ {M : Type 1} (𝓤 : URA M) (H : Heap 𝓤) (A : Atoms 𝓤) (mem : Mem
   abbrev Answer : Contract 𝓤
   Answer = tripleOf 𝓤 H A answer.signature (answer.spec 𝓤 H A mem run)
 
-  scanned : (κ : Lft) (x : RefT (List Entry)) (n : ℕ) (k : Key) (m : ℕ) (r : Look) → ent 𝓤 (ensured 𝓤 H A scan.ended (scan.clauses 𝓤 H A mem run) (κ, tt) (x, (n, (k, (m, tt)))) tt r) (fact 𝓤 (r ≡ scanOf k n m (x .now)))
+  scanned : (κ : Lft) (x : RefT (List Entry)) (n : ℕ) (k : Key) (m : ℕ) (r : Look)
+      → ent 𝓤 (ensured 𝓤 H A scan.ended (scan.clauses 𝓤 H A mem run) (κ, tt) (x, (n, (k, (m, tt)))) tt r) (fact 𝓤 (r ≡ scanOf k n m (x .now)))
   scanned κ x n k m r = exE 𝓤 _ (λ ws. snd∗ 𝓤 (sem 𝓤 H A (lasts scan.ended (κ, tt) (x, (n, (k, (m, tt)))) ws)) (fact 𝓤 (r ≡ scanOf k n m (x .now))))
 
   answered : (x : Look) (r : Found) → ent 𝓤 (ensured 𝓤 H A answer.ended (answer.clauses 𝓤 H A mem run) tt (x, tt) tt r) (fact 𝓤 (r ≡ answerOf x))
@@ -102,8 +104,11 @@ module _ {M : Type 1} (𝓤 : URA M) (H : Heap 𝓤) (A : Atoms 𝓤) (W : Given
   exits : (r : Found) (w : Val) → Lookup k n ys r → ent 𝓤 (⋆ 𝓤 H A (‵ (F.the-row .own r (w ∷ [])) ∷ (‵ (flft κ q) ⊛ ‵ ftrue) ∷ Own ∷ [])) (Post w)
   exits r w e =
       qed W (‵ (F.the-row .own r (w ∷ [])) ∷ (‵ (flft κ q) ⊛ ‵ ftrue) ∷ Own ∷ []) ∵
-      suffices ! _ (ends-at 𝓤 H A lookup.ended stayed (lookup.clauses 𝓤 H A mem run) W (((κ, tt), (q, tt), tt, x, at), tt) w r (tt, (tt, (tt, tt))) (tt, (tt, (tt, tt)))) $ says ! e $ move ! (1 ∷ []) $ frame ! $
-      nothing ! $ owned ! Y.the-row (Is Y.the-row) (LL.makes Y.the-type Y′.the-plain 𝓤 H A) k _ is-k $ fjoin ! $ owned ! usize (Is usize) (uint-makes 𝓤 H A W w64) n _ (refl, n-fits) $ fjoin ! $ move ! (2 ∷ 0 ∷ []) $ fjoin ! $ frame ! $ done !
+      suffices ! _ (ends-at 𝓤 H A lookup.ended stayed (lookup.clauses 𝓤 H A mem run) W (((κ, tt), (q, tt), tt, x, at), tt) w r (tt, (tt, (tt, tt)))
+      (tt, (tt, (tt, tt)))) $
+      says ! e $ move ! (1 ∷ []) $ frame ! $
+      nothing ! $ owned ! Y.the-row (Is Y.the-row) (LL.makes Y.the-type Y′.the-plain 𝓤 H A) k _ is-k $ fjoin ! $
+      owned ! usize (Is usize) (uint-makes 𝓤 H A W w64) n _ (refl, n-fits) $ fjoin ! $ move ! (2 ∷ 0 ∷ []) $ fjoin ! $ frame ! $ done !
 
   -- ---- what each callee is passed, and that it is had
   abbrev to-scan : Scan 𝓤 H A mem run .Ghost
@@ -112,47 +117,91 @@ module _ {M : Type 1} (𝓤 : URA M) (H : Heap 𝓤) (A : Atoms 𝓤) (W : Given
   goes-scan : ent 𝓤 (sep 𝓤 (A .lft κ q) (sem 𝓤 H A (ShrSlice (named 0) κ T.the-row .own s (v ∷ [])))) (Scan 𝓤 H A mem run .pre to-scan)
   goes-scan =
       qed W (‵ (flft κ q) ∷ Own ∷ []) ∵ nothing ! $ move ! (1 ∷ 0 ∷ []) $ join ! $
-      nothing ! $ owned ! usize (Is usize) (uint-makes 𝓤 H A W w64) 0 _ (refl, lit< tt) $ fjoin ! $ owned ! Y.the-row (Is Y.the-row) (LL.makes Y.the-type Y′.the-plain 𝓤 H A) k _ is-k $ fjoin ! $ owned ! usize (Is usize) (uint-makes 𝓤 H A W w64) n _ (refl, n-fits) $ fjoin ! $ move ! (2 ∷ 0 ∷ []) $ fjoin ! $ move ! (1 ∷ 0 ∷ []) $ join ! $ frame ! $ done !
+      nothing ! $ owned ! usize (Is usize) (uint-makes 𝓤 H A W w64) 0 _ (refl, lit< tt) $ fjoin ! $
+      owned ! Y.the-row (Is Y.the-row) (LL.makes Y.the-type Y′.the-plain 𝓤 H A) k _ is-k $ fjoin ! $
+      owned ! usize (Is usize) (uint-makes 𝓤 H A W w64) n _ (refl, n-fits) $ fjoin ! $ move ! (2 ∷ 0 ∷ []) $ fjoin ! $ move ! (1 ∷ 0 ∷ []) $ join ! $
+      frame ! $ done !
 
   abbrev to-answer : Look → Val → Answer 𝓤 H A mem run .Ghost
   to-answer r u = ((tt, tt, tt, (r, tt), (u ∷ [], tt)), tt)
 
   goes-answer : (r : Look) (u : Val) → Is K.the-row r (u ∷ []) → ent 𝓤 (sem 𝓤 H A ftrue) (Answer 𝓤 H A mem run .pre (to-answer r u))
   goes-answer r u is =
-      qed W (‵ ftrue ∷ []) ∵ owned ! K.the-row (Is K.the-row) (LL.makes K.the-type K′.the-plain 𝓤 H A) r _ is $ fjoin ! $ nothing ! $ join ! $ frame ! $ done !
+      qed W (‵ ftrue ∷ []) ∵ owned ! K.the-row (Is K.the-row) (LL.makes K.the-type K′.the-plain 𝓤 H A) r _ is $ fjoin ! $ nothing ! $ join ! $
+      frame ! $ done !
 
   module _ (C : Calls 𝓤 H) (Λ : Loops 𝓤 H) (fm : FmC 𝓤 H (W .laws) C) (known-scan : Triple 𝓤 (C #catalogue·scan) (Scan 𝓤 H A mem run)) (known-answer : Triple 𝓤 (C #entries·answer) (Answer 𝓤 H A mem run)) where
     walk : ent 𝓤 (onEntry 𝓤 H A lookup.signature (κ, tt) (q, tt) x at) (WpFn 𝓤 H C Λ code.function (v ∷ vint w64 n ∷ Y′.lowered k ∷ []) Post)
     walk =
-        qed W ((‵ (flft κ q) ⊛ ‵ ftrue) ∷ ‵ (owns (ShrSlice (named 0) κ T.the-row ∷ usize ∷ Y.the-row ∷ []) x at) ∷ []) ∵ enter ! C Λ code.function (v ∷ vint w64 n ∷ Y′.lowered k ∷ []) _ $
+        qed W ((‵ (flft κ q) ⊛ ‵ ftrue) ∷ ‵ (owns (ShrSlice (named 0) κ T.the-row ∷ usize ∷ Y.the-row ∷ []) x at) ∷ []) ∵ enter ! C Λ code.function
+        (v ∷ vint w64 n ∷ Y′.lowered k ∷ []) _ $
         alloc1 ! (λ l₀. alloc1 ! (λ l₁. alloc1 ! (λ l₂. alloc1 ! (λ l₃. alloc1 ! (λ l₄. alloc0 ! $ params1 ! $
-        pass1 ! (init ! 6 refl (tt, (tt, (record { fits = gn .0 }, tt)))) $ pass1 ! (init ! 4 refl (tt, record { fits = n-fits })) $ pass1 ! (init ! 2 refl (LL.lawful Y.the-type Y′.the-laws 𝓤 H A W .typed k _ is-k .0)) $ pass0 ! $
-        move ! (11 ∷ []) $ fsplit ! $ move ! (1 ∷ []) $ drop ! $ use1 W (Own ⊛ Own) (shr-slice-copy 𝓤 H A W (named 0) κ T.the-row .twice s (v ∷ [])) $ split ! $ move ! (12 ∷ []) $ split ! $ move ! (1 ∷ []) $ drop ! $
+        pass1 ! (init ! 6 refl (tt, (tt, (record { fits = gn .0 }, tt)))) $ pass1 ! (init ! 4 refl (tt, record { fits = n-fits })) $
+        pass1 ! (init ! 2 refl (LL.lawful Y.the-type Y′.the-laws 𝓤 H A W .typed k _ is-k .0)) $ pass0 ! $
+        move ! (11 ∷ []) $ fsplit ! $ move ! (1 ∷ []) $ drop ! $ use1 W (Own ⊛ Own) (shr-slice-copy 𝓤 H A W (named 0) κ T.the-row .twice s (v ∷ [])) $
+        split ! $ move ! (12 ∷ []) $ split ! $ move ! (1 ∷ []) $ drop ! $
         -- [the token; what s owns; what s owns; _4; …]
         use2 W (raw (Scan 𝓤 H A mem run .pre to-scan)) goes-scan $
-        calls-at ! fm (Scan 𝓤 H A mem run) known-scan to-scan (and-then ! (load ! (from ! (stop !)) (look ! 8 refl)) (and-then ! (load ! (from ! (stop !)) (look ! 6 refl)) (and-then ! (load ! (from ! (stop !)) (look ! 4 refl)) (and-then ! (lit ! tt) (no-more !))))) (λ u.
-        use1 W (later (some (λ (r : Look). ((‵ (flft κ q) ⊛ ‵ ftrue) ⊛ ‵ (K.the-row .own r (u ∷ []))) ⊛ raw (ensured 𝓤 H A scan.ended (scan.clauses 𝓤 H A mem run) (κ, tt) (s, (n, (k, (0, tt)))) tt r)))) (id⊢ 𝓤 _) $ await ! tt $ pick ! (λ r.
-        split ! $ move ! (1 ∷ []) $ use1 W (raw (fact 𝓤 (r ≡ scanOf k n 0 ys))) (scanned 𝓤 H A mem run κ s n k 0 r) $ heard ! (r ≡ scanOf k n 0 ys) (λ e₂. split ! $ move ! (1 ∷ []) $
-        peeks ! K.the-row (Is K.the-row) (shows 𝓤 H A K.the-row) r (u ∷ []) (λ is₂. land ! (from ! (stop !)) (init ! 3 refl (LL.lawful K.the-type K′.the-laws 𝓤 H A W .typed r _ is₂ .0)) $ drop ! $
+        calls-at ! fm (Scan 𝓤 H A mem run) known-scan to-scan (and-then ! (load ! (from ! (stop !)) (look ! 8 refl)) (and-then ! (load ! (from !
+        (stop !)) (look ! 6 refl)) (and-then ! (load ! (from ! (stop !)) (look ! 4 refl)) (and-then ! (lit ! tt) (no-more !))))) (λ u.
+        use1 W (later (some (λ (r : Look). ((‵ (flft κ q) ⊛ ‵ ftrue) ⊛ ‵ (K.the-row .own r (u ∷ []))) ⊛ raw (ensured 𝓤 H A scan.ended
+        (scan.clauses 𝓤 H A mem run) (κ, tt) (s, (n, (k, (0, tt)))) tt r)))) (id⊢ 𝓤 _) $
+        await ! tt $ pick ! (λ r.
+        split ! $ move ! (1 ∷ []) $ use1 W (raw (fact 𝓤 (r ≡ scanOf k n 0 ys))) (scanned 𝓤 H A mem run κ s n k 0 r) $
+        heard ! (r ≡ scanOf k n 0 ys) (λ e₂. split ! $ move ! (1 ∷ []) $
+        peeks ! K.the-row (Is K.the-row) (shows 𝓤 H A K.the-row) r (u ∷ []) (λ is₂. land ! (from ! (stop !)) (init ! 3 refl
+        (LL.lawful K.the-type K′.the-laws 𝓤 H A W .typed r _ is₂ .0)) $
+        drop ! $
         -- [the token; what s owns; _4; …]
         nothing ! $ use1 W (raw (Answer 𝓤 H A mem run .pre (to-answer r u))) (goes-answer r u is₂) $
         calls-at ! fm (Answer 𝓤 H A mem run) known-answer (to-answer r u) (and-then ! (load ! (from ! (stop !)) (look ! 3 refl)) (no-more !)) (λ w.
-        use1 W (later (some (λ (a : Found). (‵ ftrue ⊛ ‵ (F.the-row .own a (w ∷ []))) ⊛ raw (ensured 𝓤 H A answer.ended (answer.clauses 𝓤 H A mem run) tt (r, tt) tt a)))) (id⊢ 𝓤 _) $ await ! tt $ pick ! (λ a.
-        split ! $ move ! (1 ∷ []) $ use1 W (raw (fact 𝓤 (a ≡ answerOf r))) (answered 𝓤 H A mem run r a) $ heard ! (a ≡ answerOf r) (λ e₃. split ! $ drop ! $
-        peeks ! F.the-row (Is F.the-row) (shows 𝓤 H A F.the-row) a (w ∷ []) (λ is₃. land ! (from ! (stop !)) (init ! 11 refl (LL.lawful F.the-type F′.the-laws 𝓤 H A W .typed a _ is₃ .0)) $
+        use1 W (later (some (λ (a : Found). (‵ ftrue ⊛ ‵ (F.the-row .own a (w ∷ []))) ⊛ raw (ensured 𝓤 H A answer.ended
+        (answer.clauses 𝓤 H A mem run) tt (r, tt) tt a)))) (id⊢ 𝓤 _) $
+        await ! tt $ pick ! (λ a.
+        split ! $ move ! (1 ∷ []) $ use1 W (raw (fact 𝓤 (a ≡ answerOf r))) (answered 𝓤 H A mem run r a) $ heard ! (a ≡ answerOf r) (λ e₃. split ! $
+        drop ! $
+        peeks ! F.the-row (Is F.the-row) (shows 𝓤 H A F.the-row) a (w ∷ []) (λ is₃. land ! (from ! (stop !)) (init ! 11 refl
+        (LL.lawful F.the-type F′.the-laws 𝓤 H A W .typed a _ is₃ .0)) $
         -- [the result's; the token; what s owns; _4; …]
         returns ! (look ! 11 refl) $ forget ! 3 refl $ forget ! 5 refl $ forget ! 7 refl $ forget ! 9 refl $ forget ! 11 refl $
-        move ! (11 ∷ 12 ∷ []) $ free1 ! $ move ! (9 ∷ 10 ∷ []) $ free1 ! $ move ! (7 ∷ 8 ∷ []) $ free1 ! $ move ! (5 ∷ 6 ∷ []) $ free1 ! $ move ! (3 ∷ 4 ∷ []) $ free1 ! $ free0 ! $
+        move ! (11 ∷ 12 ∷ []) $ free1 ! $ move ! (9 ∷ 10 ∷ []) $ free1 ! $ move ! (7 ∷ 8 ∷ []) $ free1 ! $ move ! (5 ∷ 6 ∷ []) $ free1 ! $
+        move ! (3 ∷ 4 ∷ []) $ free1 ! $ free0 ! $
         by ! (exits a w (record { answer = e₃ ∙ ap answerOf e₂ ∙ looked-up k n 0 ys })))))))))))))))
 
 module _ {M : Type 1} (𝓤 : URA M) (H : Heap 𝓤) (A : Atoms 𝓤) (W : Given 𝓤 H A) (mem : Memory → SProp 𝓤) (run : Routine → Fun 𝓤) (𝓣 : Tables 𝓤 H)
     (known-scan : Triple 𝓤 (𝓣 .C #catalogue·scan) (Scan 𝓤 H A mem run)) (known-answer : Triple 𝓤 (𝓣 .C #entries·answer) (Answer 𝓤 H A mem run)) where
   lookup-walks : Walks 𝓤 H A lookup.ended stayed (WpFn 𝓤 H (𝓣 .C) (𝓣 .Λ) code.function) (lookup.clauses 𝓤 H A mem run)
-  lookup-walks = walked 𝓤 H A lookup.ended stayed (lookup.clauses 𝓤 H A mem run) (WpFn 𝓤 H (𝓣 .C) (𝓣 .Λ) code.function) (λ κs. (slice-vals, (uint-vals w64, (LL.vals Y.the-type Y′.the-laws, tt)))) (λ κs. (shr-slice-tells (named 0) (κs .0) T.the-row, (uint-tells w64, (LL.tells Y.the-type Y′.the-laws, tt))))
-      (λ κs qs bounds a g are. via 𝓤 _ (fst∗ 𝓤 _ (emp 𝓤)) (walk 𝓤 H A W mem run (κs .0) (qs .0) (a .0 .ptr .0) (a .0 .ptr .1) (a .0 .name) (a .0 .now) (a .1 .0) (a .1 .1 .0) (are .0 .0 .1) (are .1 .0 .1) (are .1 .1 .0) (𝓣 .C) (𝓣 .Λ) (fmOf 𝓤 H (W .laws) 𝓣) known-scan known-answer))
+  lookup-walks =
+      walked 𝓤 H A lookup.ended stayed (lookup.clauses 𝓤 H A mem run) (WpFn 𝓤 H (𝓣 .C) (𝓣 .Λ) code.function) (λ κs. (
+        slice-vals,
+        (
+          uint-vals w64,
+          (LL.vals Y.the-type Y′.the-laws, tt),
+        ),
+      )) (λ κs. (
+        shr-slice-tells (named 0) (κs .0) T.the-row,
+        (
+          uint-tells w64,
+          (
+            LL.tells Y.the-type Y′.the-laws,
+            tt,
+          ),
+        ),
+      ))
+      (λ κs qs bounds a g are. via 𝓤 _ (fst∗ 𝓤 _ (emp 𝓤)) (walk 𝓤 H A W mem run (κs .0) (qs .0) (a .0 .ptr .0) (a .0 .ptr .1) (a .0 .name)
+      (a .0 .now) (a .1 .0) (a .1 .1 .0) (are .0 .0 .1) (are .1 .0 .1) (are .1 .1 .0) (𝓣 .C) (𝓣 .Λ) (fmOf 𝓤 H (W .laws) 𝓣) known-scan known-answer))
 
   lookup-meets : Meets 𝓤 H A lookup.signature (WpFn 𝓤 H (𝓣 .C) (𝓣 .Λ) code.function) (lookup.spec 𝓤 H A mem run)
-  lookup-meets = walk-meets 𝓤 H A lookup.ended stayed W (goes-none-slice 𝓤 H A W 1 (0 ∷ []) tt (plain (λ _. T.the-row)) yes, (goes-none 𝓤 H A W 1 (λ _. usize) yes (λ κs x f. refl), (goes-none 𝓤 H A W 1 (λ _. Y.the-row) yes (λ κs x f. refl), tt))) (lookup.clauses 𝓤 H A mem run) (WpFn 𝓤 H (𝓣 .C) (𝓣 .Λ) code.function) (WpFn-mono 𝓤 H (W .laws) 𝓣 code.function) lookup-walks
+  lookup-meets =
+      walk-meets 𝓤 H A lookup.ended stayed W (
+        goes-none-slice 𝓤 H A W 1 (0 ∷ []) tt (plain (λ _. T.the-row)) yes,
+        (
+          goes-none 𝓤 H A W 1
+              (λ _. usize) yes (λ κs x f. refl),
+          (goes-none 𝓤 H A W 1 (λ _. Y.the-row) yes (λ κs x f. refl), tt),
+        ),
+      ) (lookup.clauses 𝓤 H A mem run) (WpFn 𝓤 H
+      (𝓣 .C) (𝓣 .Λ) code.function) (WpFn-mono 𝓤 H (W .laws) 𝓣 code.function) lookup-walks
 
 pub lookup-spec : {M : Type 1} → stated.statement M
 unfolding code.routine tablesOf
@@ -161,4 +210,5 @@ lookup-spec 𝓤 H 𝓜 𝓖 𝓡 =
     (tables 𝓤 H 𝓜 𝓡 code.env .C) (tables 𝓤 H 𝓜 𝓡 code.env .Λ) #catalogue·lookup code.function (code.unfolded 𝓤 H 𝓜 𝓡)
     (lookup-meets 𝓤 H (𝓖 .A) (givenOf 𝓤 H 𝓜 𝓖) (𝓜 .mem) (𝓡 .run) (tablesOf 𝓤 H 𝓜 (tables 𝓤 H 𝓜 𝓡 code.env))
     (cited 𝓤 H (Scan 𝓤 H (𝓖 .A) (𝓜 .mem) (𝓡 .run)) 𝓜 𝓡 code.env #catalogue·scan scan-def.routine code.calls-catalogue·scan (scan-thm.met 𝓤 H 𝓜 𝓖 𝓡))
-    (cited 𝓤 H (Answer 𝓤 H (𝓖 .A) (𝓜 .mem) (𝓡 .run)) 𝓜 𝓡 code.env #entries·answer answer-def.routine code.calls-entries·answer (answer-thm.met 𝓤 H 𝓜 𝓖 𝓡)))
+    (cited 𝓤 H (Answer 𝓤 H (𝓖 .A) (𝓜 .mem) (𝓡 .run)) 𝓜 𝓡 code.env #entries·answer answer-def.routine code.calls-entries·answer
+    (answer-thm.met 𝓤 H 𝓜 𝓖 𝓡)))

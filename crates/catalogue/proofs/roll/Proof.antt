@@ -1,5 +1,5 @@
--- `catalogue::roll` meets its contract: a walk of its MIR, by hand, with a loop, a store and a call in it. The borrow is opened once, before the loop, and closed once, after it, at the list that the turns made.
--- The loop's variable is a turn: the place, how many are left, the record to store with its machine value, and the list so far.
+-- `catalogue::roll` meets its contract: a walk of its MIR, by hand, with a loop, a store and a call in it. The borrow is opened once, before the
+-- loop, and closed once, after it, at the list that the turns made. A turn is the place, how many are left, the record to store, and the list.
 use mathlib.Core.Path.{_≡_, refl, sym, _∙_, ap, subst}
 use Prim.Native.Nat.{ℕ, zero, suc, _+_, _-_, _≤_, _<_, _^_, _*_}
 use native.Mathlib.Nat.{lt-irrefl}
@@ -64,7 +64,8 @@ use Rattle.catalogue.proofs.roll.Code.Mir as mir
 
 -- ---- lists and numbers
 -- one turn of a run
-rolled-step : (m : ℕ) (d : Bool) (at : ℕ) (c : Entry) (ys : List Entry) → 0 < m → rolled m d at c ys ≡ rolled (m - 1) d (movedTo d at) (getD ys at blank) (set ys at c)
+rolled-step : (m : ℕ) (d : Bool) (at : ℕ) (c : Entry) (ys : List Entry) → 0 < m
+    → rolled m d at c ys ≡ rolled (m - 1) d (movedTo d at) (getD ys at blank) (set ys at c)
 unfolding rolled
 rolled-step zero d at c ys l = absurd (lt-irrefl 0 l)
 rolled-step (suc m) d at c ys l = ap (λ (k : ℕ). rolled k d (movedTo d at) (getD ys at blank) (set ys at c)) (less m)
@@ -128,7 +129,19 @@ record Turn (n : ℕ) (d : Bool) (end ys : List Entry) : Type 0 where
   is : Is T.the-row c (u ∷ [])
 
 abbrev stayed : Stays (roll.ended .signature .params) (roll.ended .kept)
-stayed = (stay-slice (0 ∷ []) tt (plain (λ _. T.the-row)), (stay-none (λ _. usize) yes, (stay-none (λ _. usize) yes, (stay-none (λ _. bool) yes, (stay-none (λ _. T.the-row) yes, tt)))))
+stayed = (
+  stay-slice (0 ∷ []) tt (plain (λ _. T.the-row)),
+  (
+    stay-none (λ _. usize) yes,
+    (
+      stay-none (λ _. usize) yes,
+      (
+        stay-none (λ _. bool) yes,
+        (stay-none (λ _. T.the-row) yes, tt),
+      ),
+    ),
+  ),
+)
 
 module _ {M : Type 1} (𝓤 : URA M) (H : Heap 𝓤) (A : Atoms 𝓤) (mem : Memory → SProp 𝓤) (run : Routine → Fun 𝓤) where
   -- the contract that the proof cites
@@ -136,11 +149,13 @@ module _ {M : Type 1} (𝓤 : URA M) (H : Heap 𝓤) (A : Atoms 𝓤) (mem : Mem
   Moved = tripleOf 𝓤 H A moved.signature (moved.spec 𝓤 H A mem run)
 
   -- of the callee's `ensured`, the clause alone
-  said : (at : ℕ) (d : Bool) (r : ℕ) → ent 𝓤 (ensured 𝓤 H A moved.ended (moved.clauses 𝓤 H A mem run) tt (at, (d, tt)) tt r) (fact 𝓤 (r ≡ movedTo d at))
+  said : (at : ℕ) (d : Bool) (r : ℕ)
+      → ent 𝓤 (ensured 𝓤 H A moved.ended (moved.clauses 𝓤 H A mem run) tt (at, (d, tt)) tt r) (fact 𝓤 (r ≡ movedTo d at))
   said at d r = exE 𝓤 _ (λ ws. snd∗ 𝓤 (sem 𝓤 H A (lasts moved.ended tt (at, (d, tt)) ws)) (fact 𝓤 (r ≡ movedTo d at)))
 
 module _ {M : Type 1} (𝓤 : URA M) (H : Heap 𝓤) (A : Atoms 𝓤) (W : Given 𝓤 H A) (mem : Memory → SProp 𝓤) (run : Routine → Fun 𝓤) (κ : Lft) (q : Share) (b o : ℕ) (γ : GName) (ys : List Entry) (f m : ℕ) (d : Bool) (c₀ : Entry)
-    (gn : Room T.the-row (length ys)) (f-fits : f < 2 ^ 64) (m-fits : m < 2 ^ 64) (is-c : Is T.the-row c₀ (T′.lowered c₀ ∷ [])) (into : inside d f m (length ys)) where
+    (gn : Room T.the-row (length ys)) (f-fits : f < 2 ^ 64) (m-fits : m < 2 ^ 64) (is-c : Is T.the-row c₀ (T′.lowered c₀ ∷ [])) (into : inside d f m
+    (length ys)) where
   abbrev x : RefT (List Entry) × (ℕ × (ℕ × (Bool × (Entry × Unit {0}))))
   x = (record { ptr = (b, o); name = γ; now = ys }, (f, (m, (d, (c₀, tt)))))
 
@@ -157,15 +172,37 @@ module _ {M : Type 1} (𝓤 : URA M) (H : Heap 𝓤) (A : Atoms 𝓤) (W : Given
   abbrev Obs : List Entry → Item 𝓤
   Obs l = ‵ (fobs γ (codedHoleys T.the-row .code (heres T.the-row l)))
 
-  exits : (zs : List Entry) → length zs ≡ length ys → zs ≡ End → ent 𝓤 (⋆ 𝓤 H A (Obs zs ∷ ‵ (fbor κ (Held T.the-row (length zs) b o γ)) ∷ ‵ (flft κ q) ∷ [])) (Post vunit)
+  exits : (zs : List Entry) → length zs ≡ length ys → zs ≡ End
+      → ent 𝓤 (⋆ 𝓤 H A (Obs zs ∷ ‵ (fbor κ (Held T.the-row (length zs) b o γ)) ∷ ‵ (flft κ q) ∷ [])) (Post vunit)
   exits zs same e =
       qed W (Obs zs ∷ ‵ (fbor κ (Held T.the-row (length zs) b o γ)) ∷ ‵ (flft κ q) ∷ []) ∵
-      suffices ! _ (ends-at 𝓤 H A roll.ended stayed (roll.clauses 𝓤 H A mem run) W (((κ, tt), (q, tt), tt, x, at₀), tt) vunit tt (zs, (tt, (tt, (tt, (tt, tt))))) (same, (tt, (tt, (tt, (tt, tt)))))) $ says ! e $
+      suffices ! _ (ends-at 𝓤 H A roll.ended stayed (roll.clauses 𝓤 H A mem run) W (((κ, tt), (q, tt), tt, x, at₀), tt) vunit tt (
+        zs,
+        (
+          tt,
+          (
+            tt,
+            (
+              tt,
+              (tt, tt),
+            ),
+          ),
+        ),
+      ) (same, (tt, (tt, (tt, (tt, tt)))))) $
+      says ! e $
       -- what the plain parameters own is made anew
-      nothing ! $ owned ! T.the-row (Is T.the-row) (LL.makes T.the-type T′.the-plain 𝓤 H A) c₀ (T′.lowered c₀ ∷ []) is-c $ fjoin ! $ owned ! bool (Is bool) (bool-makes 𝓤 H A W) d (vbool d ∷ []) refl $ fjoin ! $
-      owned ! usize (Is usize) (uint-makes 𝓤 H A W w64) m (vint w64 m ∷ []) (refl, m-fits) $ fjoin ! $ owned ! usize (Is usize) (uint-makes 𝓤 H A W w64) f (vint w64 f ∷ []) (refl, f-fits) $ fjoin ! $ move ! (1 ∷ 2 ∷ 3 ∷ 0 ∷ []) $
+      nothing ! $ owned ! T.the-row (Is T.the-row) (LL.makes T.the-type T′.the-plain 𝓤 H A) c₀ (T′.lowered c₀ ∷ []) is-c $ fjoin ! $
+      owned ! bool (Is bool) (bool-makes 𝓤 H A W) d (vbool d ∷ []) refl $ fjoin ! $
+      owned ! usize (Is usize) (uint-makes 𝓤 H A W w64) m (vint w64 m ∷ []) (refl, m-fits) $ fjoin ! $
+      owned ! usize (Is usize) (uint-makes 𝓤 H A W w64) f (vint w64 f ∷ []) (refl, f-fits) $ fjoin ! $ move ! (1 ∷ 2 ∷ 3 ∷ 0 ∷ []) $
       nothing ! $ move ! (3 ∷ 0 ∷ []) $ join ! $
-      frame ! $ fjoin ! $ pureI ! (at-slice T.the-row (record { ptr = (b, o); name = γ; now = zs }) (at₀ .0)) (tt, (tt, tt)) (ap (λ (j : ℕ). sliceVal (b, o) j ∷ []) (sym same), subst (Room T.the-row) (sym same) gn) $ fjoin ! $ fjoin ! $ frame ! $
+      frame ! $ fjoin ! $
+      pureI ! (at-slice T.the-row (record { ptr = (b, o); name = γ; now = zs }) (at₀ .0)) (tt, (tt, tt)) (
+        ap (λ (j : ℕ). sliceVal (b, o) j ∷ [])
+            (sym same),
+        subst (Room T.the-row) (sym same) gn,
+      ) $
+      fjoin ! $ fjoin ! $ frame ! $
       feqI ! (List Val) (vunit ∷ []) (vunit ∷ []) refl $ done !
 
   abbrev to : ℕ → Moved 𝓤 H A mem run .Ghost
@@ -174,7 +211,8 @@ module _ {M : Type 1} (𝓤 : URA M) (H : Heap 𝓤) (A : Atoms 𝓤) (W : Given
   -- what the callee asks: its parameters are plain, and one more than the place fits
   asks : (at : ℕ) → at < 2 ^ 64 → at + 1 < 2 ^ 64 → ent 𝓤 (sem 𝓤 H A ftrue) (Moved 𝓤 H A mem run .pre (to at))
   asks at g small =
-      qed W (‵ ftrue ∷ []) ∵ owned ! bool (Is bool) (bool-makes 𝓤 H A W) d (vbool d ∷ []) refl $ fjoin ! $ owned ! usize (Is usize) (uint-makes 𝓤 H A W w64) at (vint w64 at ∷ []) (refl, g) $ fjoin ! $
+      qed W (‵ ftrue ∷ []) ∵ owned ! bool (Is bool) (bool-makes 𝓤 H A W) d (vbool d ∷ []) refl $ fjoin ! $
+      owned ! usize (Is usize) (uint-makes 𝓤 H A W w64) at (vint w64 at ∷ []) (refl, g) $ fjoin ! $
       says ! small $ nothing ! $ join ! $ done !
 
   abbrev Tn : Type 0
@@ -187,7 +225,8 @@ module _ {M : Type 1} (𝓤 : URA M) (H : Heap 𝓤) (A : Atoms 𝓤) (W : Given
   Nearer-wf = InvImage·wf (λ (t : Tn). t .left) (Nat·lt-wfRel .wf)
 
   abbrev start : Tn
-  start = record { at = f; left = m; c = c₀; u = T′.lowered c₀; zs = ys; place-fits = f-fits; left-fits = m-fits; within = into; same = refl; to-go = refl; is = is-c }
+  start =
+      record { at = f; left = m; c = c₀; u = T′.lowered c₀; zs = ys; place-fits = f-fits; left-fits = m-fits; within = into; same = refl; to-go = refl; is = is-c }
 
   abbrev word : Ty
   word = tyInt w64
@@ -203,18 +242,27 @@ module _ {M : Type 1} (𝓤 : URA M) (H : Heap 𝓤) (A : Atoms 𝓤) (W : Given
     Λ = 𝓣 .Λ
 
     abbrev En : Env 𝓤 H
-    En = (tyUnit, l₀) ∷ (slice, l₁) ∷ (word, l₂) ∷ (word, l₃) ∷ (tyBool, l₄) ∷ (T′.mir, l₅) ∷ (word, l₆) ∷ (word, l₇) ∷ (T′.mir, l₈) ∷ (T′.mir, l₉) ∷ (tyBool, l₁₀) ∷ (word, l₁₁) ∷ (tyPtr, l₁₂) ∷ (T′.mir, l₁₃) ∷ (tyPtr, l₁₄) ∷ []
+    En =
+        (tyUnit, l₀) ∷ (slice, l₁) ∷ (word, l₂) ∷ (word, l₃) ∷ (tyBool, l₄) ∷ (T′.mir, l₅) ∷ (word, l₆) ∷ (word, l₇) ∷ (T′.mir, l₈) ∷ (T′.mir, l₉) ∷
+        (tyBool, l₁₀) ∷ (word, l₁₁) ∷ (tyPtr, l₁₂) ∷ (T′.mir, l₁₃) ∷ (tyPtr, l₁₄) ∷ []
 
     -- [the row; the open borrow; obs; auth; _14; …; down to room for _0; …]
     abbrev At : Tn → List (Item 𝓤)
-    At t = ‵ (row T.the-row fullShare (t .zs) b o) ∷ ‵ (fobor κ q (Held T.the-row (length ys) b o γ)) ∷ Obs ys ∷ ‵ (fauth γ (codedHoleys T.the-row .code (heres T.the-row ys)))
-        ∷ ‵ (froom tyPtr l₁₄ 0) ∷ ‵ (fdies tyPtr l₁₄) ∷ ‵ (froom T′.mir l₁₃ 0) ∷ ‵ (fdies T′.mir l₁₃) ∷ ‵ (froom tyPtr l₁₂ 0) ∷ ‵ (fdies tyPtr l₁₂) ∷ ‵ (froom word l₁₁ 0) ∷ ‵ (fdies word l₁₁) ∷ ‵ (froom tyBool l₁₀ 0) ∷ ‵ (fdies tyBool l₁₀) ∷ ‵ (froom T′.mir l₉ 0) ∷ ‵ (fdies T′.mir l₉)
-        ∷ ‵ (fat fullShare T′.mir l₈ 0 (t .u)) ∷ ‵ (fdies T′.mir l₈) ∷ ‵ (fat fullShare word l₇ 0 (vint w64 (t .left))) ∷ ‵ (fdies word l₇) ∷ ‵ (fat fullShare word l₆ 0 (vint w64 (t .at))) ∷ ‵ (fdies word l₆)
-        ∷ ‵ (fat fullShare T′.mir l₅ 0 (T′.lowered c₀)) ∷ ‵ (fdies T′.mir l₅) ∷ ‵ (fat fullShare tyBool l₄ 0 (vbool d)) ∷ ‵ (fdies tyBool l₄) ∷ ‵ (fat fullShare word l₃ 0 (vint w64 m)) ∷ ‵ (fdies word l₃) ∷ ‵ (fat fullShare word l₂ 0 (vint w64 f)) ∷ ‵ (fdies word l₂)
+    At t =
+        ‵ (row T.the-row fullShare (t .zs) b o) ∷ ‵ (fobor κ q (Held T.the-row (length ys) b o γ)) ∷ Obs ys ∷ ‵ (fauth γ (codedHoleys T.the-row .code
+        (heres T.the-row ys)))
+        ∷ ‵ (froom tyPtr l₁₄ 0) ∷ ‵ (fdies tyPtr l₁₄) ∷ ‵ (froom T′.mir l₁₃ 0) ∷ ‵ (fdies T′.mir l₁₃) ∷ ‵ (froom tyPtr l₁₂ 0) ∷ ‵
+        (fdies tyPtr l₁₂) ∷ ‵ (froom word l₁₁ 0) ∷ ‵ (fdies word l₁₁) ∷ ‵ (froom tyBool l₁₀ 0) ∷ ‵ (fdies tyBool l₁₀) ∷ ‵ (froom T′.mir l₉ 0) ∷ ‵
+        (fdies T′.mir l₉)
+        ∷ ‵ (fat fullShare T′.mir l₈ 0 (t .u)) ∷ ‵ (fdies T′.mir l₈) ∷ ‵ (fat fullShare word l₇ 0 (vint w64 (t .left))) ∷ ‵ (fdies word l₇) ∷ ‵
+        (fat fullShare word l₆ 0 (vint w64 (t .at))) ∷ ‵ (fdies word l₆)
+        ∷ ‵ (fat fullShare T′.mir l₅ 0 (T′.lowered c₀)) ∷ ‵ (fdies T′.mir l₅) ∷ ‵ (fat fullShare tyBool l₄ 0 (vbool d)) ∷ ‵ (fdies tyBool l₄) ∷ ‵
+        (fat fullShare word l₃ 0 (vint w64 m)) ∷ ‵ (fdies word l₃) ∷ ‵ (fat fullShare word l₂ 0 (vint w64 f)) ∷ ‵ (fdies word l₂)
         ∷ ‵ (fat fullShare slice l₁ 0 (sliceVal (b, o) (length ys))) ∷ ‵ (fdies slice l₁) ∷ ‵ (froom tyUnit l₀ 0) ∷ ‵ (fdies tyUnit l₀) ∷ []
 
     abbrev Turned : Tn → Out → SProp 𝓤
-    Turned t = afterTurn 𝓤 H (Below 𝓤 H A Nearer At t) (afterBlock 𝓤 H (afterSeq 𝓤 H (Wp 𝓤 H C Λ En mir.t-5 (atReturn 𝓤 H En Post)) (atReturn 𝓤 H En Post)))
+    Turned t =
+        afterTurn 𝓤 H (Below 𝓤 H A Nearer At t) (afterBlock 𝓤 H (afterSeq 𝓤 H (Wp 𝓤 H C Λ En mir.t-5 (atReturn 𝓤 H En Post)) (atReturn 𝓤 H En Post)))
 
     turns : (t : Tn) → Sq W (At t) (runs C Λ En mir.turn-1 (anyQ (Turned t)))
     unfolding afterTurn
@@ -222,39 +270,62 @@ module _ {M : Type 1} (𝓤 : URA M) (H : Heap 𝓤) (A : Atoms 𝓤) (W : Given
         assigns ! (bin ! (lit ! tt) (load ! (from ! (stop !)) (look ! 18 refl)) tt) (from ! (stop !)) (init ! 12 refl (tt, tt)) $
         first ! $ branches ! (load ! (from ! (stop !)) (look ! 12 refl))
         (λ more. skips ! $ exec ! C Λ En (tail (tail mir.turn-1)) (anyQ (Turned t)) $
-        assigns ! (bin ! (load ! (from ! (stop !)) (look ! 20 refl)) (lit ! tt) (record { fits = room more })) (from ! (stop !)) (init ! 10 refl (tt, record { fits = room more })) $
-        assigns ! (bin ! (load ! (from ! (fld ! refl (stop !))) (look-in ! 30 (sub ! 0 refl (whole !)))) (load ! (from ! (stop !)) (look ! 10 refl)) tt) (from ! (stop !)) (init ! 8 refl (tt, tt)) $
+        assigns ! (bin ! (load ! (from ! (stop !)) (look ! 20 refl)) (lit ! tt) (record { fits = room more })) (from ! (stop !)) (init ! 10 refl (
+          tt,
+          record { fits = room more },
+        )) $
+        assigns ! (bin ! (load ! (from ! (fld ! refl (stop !))) (look-in ! 30 (sub ! 0 refl (whole !)))) (load ! (from ! (stop !))
+        (look ! 10 refl)) tt) (from ! (stop !)) (init ! 8 refl (tt, tt)) $
         rewrite ! 8 (λ (p : ℕ). ‵ (fat fullShare tyPtr l₁₂ 0 (vptr b p))) (sym (place-is 24 o (t .at))) refl $
-        elem-out ! T.the-row (Is T.the-row) (shows 𝓤 H A T.the-row) (LL.vals T.the-type T′.the-laws) (LL.tells T.the-type T′.the-laws) fullShare (t .zs) (t .at) blank b o (here more) (λ g.
+        elem-out ! T.the-row (Is T.the-row) (shows 𝓤 H A T.the-row) (LL.vals T.the-type T′.the-laws) (LL.tells T.the-type T′.the-laws) fullShare
+        (t .zs) (t .at) blank b o (here more) (λ g.
         -- [s[at]; what it owns; the others; the open borrow; obs; auth; _14; …]
-        assigns ! (of-opd ! (load ! (from ! (hop ! (look ! 10 refl) (stop !))) (look-raw ! 0 refl))) (from ! (stop !)) (init ! 8 refl (LL.lawful T.the-type T′.the-laws 𝓤 H A W .typed elem _ g .0)) $
-        assigns ! (of-opd ! (load ! (from ! (stop !)) (look ! 8 refl))) (from ! (stop !)) (init ! 16 refl (LL.lawful T.the-type T′.the-laws 𝓤 H A W .typed elem _ g .0)) $
-        assigns ! (bin ! (load ! (from ! (stop !)) (look ! 22 refl)) (lit ! tt) (record { fits = room more })) (from ! (stop !)) (store ! 12 refl (tt, record { fits = room more })) $
-        assigns ! (bin ! (load ! (from ! (fld ! refl (stop !))) (look-in ! 32 (sub ! 0 refl (whole !)))) (load ! (from ! (stop !)) (look ! 12 refl)) tt) (from ! (stop !)) (init ! 6 refl (tt, tt)) $
+        assigns ! (of-opd ! (load ! (from ! (hop ! (look ! 10 refl) (stop !))) (look-raw ! 0 refl))) (from ! (stop !)) (init ! 8 refl
+        (LL.lawful T.the-type T′.the-laws 𝓤 H A W .typed elem _ g .0)) $
+        assigns ! (of-opd ! (load ! (from ! (stop !)) (look ! 8 refl))) (from ! (stop !)) (init ! 16 refl
+        (LL.lawful T.the-type T′.the-laws 𝓤 H A W .typed elem _ g .0)) $
+        assigns ! (bin ! (load ! (from ! (stop !)) (look ! 22 refl)) (lit ! tt) (record { fits = room more })) (from ! (stop !)) (store ! 12 refl (
+          tt,
+          record { fits = room more },
+        )) $
+        assigns ! (bin ! (load ! (from ! (fld ! refl (stop !))) (look-in ! 32 (sub ! 0 refl (whole !)))) (load ! (from ! (stop !))
+        (look ! 12 refl)) tt) (from ! (stop !)) (init ! 6 refl (tt, tt)) $
         rewrite ! 6 (λ (p : ℕ). ‵ (fat fullShare tyPtr l₁₄ 0 (vptr b p))) (sym (place-is 24 o (t .at))) refl $
-        assigns ! (of-opd ! (load ! (from ! (stop !)) (look ! 18 refl))) (from ! (hop ! (look ! 6 refl) (stop !))) (store-raw ! 0 refl (LL.lawful T.the-type T′.the-laws 𝓤 H A W .typed (t .c) _ (t .is) .0)) $
-        move ! (1 ∷ []) $ drop ! $ owned ! T.the-row (Is T.the-row) (LL.makes T.the-type T′.the-plain 𝓤 H A) (t .c) (t .u ∷ []) (t .is) $ move ! (1 ∷ 0 ∷ []) $ elem-put ! T.the-row fullShare (t .zs) (t .at) (t .c) (t .u ∷ []) b o (here more) $
+        assigns ! (of-opd ! (load ! (from ! (stop !)) (look ! 18 refl))) (from ! (hop ! (look ! 6 refl) (stop !))) (store-raw ! 0 refl
+        (LL.lawful T.the-type T′.the-laws 𝓤 H A W .typed (t .c) _ (t .is) .0)) $
+        move ! (1 ∷ []) $ drop ! $ owned ! T.the-row (Is T.the-row) (LL.makes T.the-type T′.the-plain 𝓤 H A) (t .c) (t .u ∷ []) (t .is) $
+        move ! (1 ∷ 0 ∷ []) $ elem-put ! T.the-row fullShare (t .zs) (t .at) (t .c) (t .u ∷ []) b o (here more) $
         -- [the row; the open borrow; obs; auth; _14; …]
-        assigns ! (of-opd ! (load ! (from ! (stop !)) (look ! 14 refl))) (from ! (stop !)) (store ! 16 refl (LL.lawful T.the-type T′.the-laws 𝓤 H A W .typed elem _ g .0)) $
+        assigns ! (of-opd ! (load ! (from ! (stop !)) (look ! 14 refl))) (from ! (stop !)) (store ! 16 refl
+        (LL.lawful T.the-type T′.the-laws 𝓤 H A W .typed elem _ g .0)) $
         nothing ! $ use1 W (raw (Moved 𝓤 H A mem run .pre (to (t .at)))) (asks (t .at) (t .place-fits) (small more)) $
-        calls-at ! (fmOf 𝓤 H (W .laws) 𝓣) (Moved 𝓤 H A mem run) known (to (t .at)) (and-then ! (load ! (from ! (stop !)) (look ! 21 refl)) (and-then ! (load ! (from ! (stop !)) (look ! 25 refl)) (no-more !))) (λ v.
-        use1 W (later (some (λ (r : ℕ). (‵ ftrue ⊛ ‵ (usize .own r (v ∷ []))) ⊛ raw (ensured 𝓤 H A moved.ended (moved.clauses 𝓤 H A mem run) tt (t .at, (d, tt)) tt r)))) (id⊢ 𝓤 _) $ await ! tt $ pick ! (λ r.
-        split ! $ move ! (1 ∷ []) $ use1 W (raw (fact 𝓤 (r ≡ movedTo d (t .at)))) (said 𝓤 H A mem run (t .at) d r) $ heard ! (r ≡ movedTo d (t .at)) (λ e. split ! $ drop ! $
+        calls-at ! (fmOf 𝓤 H (W .laws) 𝓣) (Moved 𝓤 H A mem run) known (to (t .at)) (and-then ! (load ! (from ! (stop !)) (look ! 21 refl))
+        (and-then ! (load ! (from ! (stop !)) (look ! 25 refl)) (no-more !))) (λ v.
+        use1 W (later (some (λ (r : ℕ). (‵ ftrue ⊛ ‵ (usize .own r (v ∷ []))) ⊛ raw (ensured 𝓤 H A moved.ended (moved.clauses 𝓤 H A mem run) tt
+        (t .at, (d, tt)) tt r)))) (id⊢ 𝓤 _) $
+        await ! tt $ pick ! (λ r.
+        split ! $ move ! (1 ∷ []) $ use1 W (raw (fact 𝓤 (r ≡ movedTo d (t .at)))) (said 𝓤 H A mem run (t .at) d r) $
+        heard ! (r ≡ movedTo d (t .at)) (λ e. split ! $ drop ! $
         peeks ! usize (Is usize) (shows 𝓤 H A usize) r (v ∷ []) (λ is.
         -- [the result's; the row; …]
         land ! (from ! (stop !)) (store ! 21 refl (uint-lawful 𝓤 H A W w64 .typed r _ is .0)) $ drop ! $
         rewrite ! 20 (λ (w : Val). ‵ (fat fullShare word l₆ 0 w)) (ap only (is .0)) refl $
-        assigns-last ! (bin ! (load ! (from ! (stop !)) (look ! 18 refl)) (lit ! tt) (ltb→lt 0 (t .left) more)) (from ! (stop !)) (store ! 18 refl (tt, record { fits = less-fits (t .left) (t .left-fits) })) $
+        assigns-last ! (bin ! (load ! (from ! (stop !)) (look ! 18 refl)) (lit ! tt) (ltb→lt 0 (t .left) more)) (from ! (stop !)) (store ! 18 refl
+        (tt, record { fits = less-fits (t .left) (t .left-fits) })) $
         forget ! 4 refl $ forget ! 6 refl $ forget ! 8 refl $ forget ! 10 refl $ forget ! 12 refl $ forget ! 14 refl $
         again ! Nearer At t (next more g r e (is .1)) (one-less (t .left) (ltb→lt 0 (t .left) more))))))))
         (λ over. jumps ! $ exec ! C Λ En mir.t-5 (atRet En Post) $
         assigns ! (of-opd ! (unit-lit !)) (from ! (stop !)) (init ! 32 refl (tt, tt)) $
         closes-slice ! tt T.the-row ys (t .zs) (t .same) b o $
         -- [obs; the borrow; the token; _14; …]
-        returns ! (look ! 31 refl) $ forget ! 11 refl $ forget ! 15 refl $ forget ! 17 refl $ forget ! 19 refl $ forget ! 21 refl $ forget ! 23 refl $ forget ! 25 refl $ forget ! 27 refl $ forget ! 29 refl $ forget ! 31 refl $
-        move ! (31 ∷ 32 ∷ []) $ free1 ! $ move ! (29 ∷ 30 ∷ []) $ free1 ! $ move ! (27 ∷ 28 ∷ []) $ free1 ! $ move ! (25 ∷ 26 ∷ []) $ free1 ! $ move ! (23 ∷ 24 ∷ []) $ free1 ! $
-        move ! (21 ∷ 22 ∷ []) $ free1 ! $ move ! (19 ∷ 20 ∷ []) $ free1 ! $ move ! (17 ∷ 18 ∷ []) $ free1 ! $ move ! (15 ∷ 16 ∷ []) $ free1 ! $ move ! (13 ∷ 14 ∷ []) $ free1 ! $
-        move ! (11 ∷ 12 ∷ []) $ free1 ! $ move ! (9 ∷ 10 ∷ []) $ free1 ! $ move ! (7 ∷ 8 ∷ []) $ free1 ! $ move ! (5 ∷ 6 ∷ []) $ free1 ! $ move ! (3 ∷ 4 ∷ []) $ free1 ! $ free0 ! $
+        returns ! (look ! 31 refl) $ forget ! 11 refl $ forget ! 15 refl $ forget ! 17 refl $ forget ! 19 refl $ forget ! 21 refl $ forget ! 23 refl $
+        forget ! 25 refl $ forget ! 27 refl $ forget ! 29 refl $ forget ! 31 refl $
+        move ! (31 ∷ 32 ∷ []) $ free1 ! $ move ! (29 ∷ 30 ∷ []) $ free1 ! $ move ! (27 ∷ 28 ∷ []) $ free1 ! $ move ! (25 ∷ 26 ∷ []) $ free1 ! $
+        move ! (23 ∷ 24 ∷ []) $ free1 ! $
+        move ! (21 ∷ 22 ∷ []) $ free1 ! $ move ! (19 ∷ 20 ∷ []) $ free1 ! $ move ! (17 ∷ 18 ∷ []) $ free1 ! $ move ! (15 ∷ 16 ∷ []) $ free1 ! $
+        move ! (13 ∷ 14 ∷ []) $ free1 ! $
+        move ! (11 ∷ 12 ∷ []) $ free1 ! $ move ! (9 ∷ 10 ∷ []) $ free1 ! $ move ! (7 ∷ 8 ∷ []) $ free1 ! $ move ! (5 ∷ 6 ∷ []) $ free1 ! $
+        move ! (3 ∷ 4 ∷ []) $ free1 ! $ free0 ! $
         by ! (exits (t .zs) (t .same) (sym (rolled-none (t .left) d (t .at) (t .c) (t .zs) (nltb→le 0 (t .left) over)) ∙ t .to-go)))
       where
         elem : Entry
@@ -282,9 +353,13 @@ module _ {M : Type 1} (𝓤 : URA M) (H : Heap 𝓤) (A : Atoms 𝓤) (W : Given
           zs = set (t .zs) (t .at) (t .c);
           place-fits = r-fits;
           left-fits = less-fits (t .left) (t .left-fits);
-          within = subst (λ (p : ℕ). inside d p (t .left - 1) (length ys)) (sym e) (next-inside d (t .at) (t .left) (length ys) (t .within) (ltb→lt 0 (t .left) more));
+          within =
+              subst (λ (p : ℕ). inside d p (t .left - 1) (length ys)) (sym e) (next-inside d (t .at) (t .left) (length ys) (t .within) (ltb→lt 0
+              (t .left) more));
           same = length-set (t .zs) (t .at) (t .c) ∙ t .same;
-          to-go = ap (λ (p : ℕ). rolled (t .left - 1) d p elem (set (t .zs) (t .at) (t .c))) e ∙ sym (rolled-step (t .left) d (t .at) (t .c) (t .zs) (ltb→lt 0 (t .left) more)) ∙ t .to-go;
+          to-go =
+              ap (λ (p : ℕ). rolled (t .left - 1) d p elem (set (t .zs) (t .at) (t .c))) e
+              ∙ sym (rolled-step (t .left) d (t .at) (t .c) (t .zs) (ltb→lt 0 (t .left) more)) ∙ t .to-go;
           is = g;
         }
 
@@ -292,14 +367,21 @@ module _ {M : Type 1} (𝓤 : URA M) (H : Heap 𝓤) (A : Atoms 𝓤) (W : Given
     looped = first ! $ blocks ! $ loops ! 𝓣 Nearer Nearer-wf At turns start
 
   module _ (𝓣 : Tables 𝓤 H) (known : Triple 𝓤 (𝓣 .C #entries·moved) (Moved 𝓤 H A mem run)) where
-    walk : ent 𝓤 (onEntry 𝓤 H A roll.signature (κ, tt) (q, tt) x at₀) (WpFn 𝓤 H (𝓣 .C) (𝓣 .Λ) code.function (sliceVal (b, o) (length ys) ∷ vint w64 f ∷ vint w64 m ∷ vbool d ∷ T′.lowered c₀ ∷ []) Post)
+    walk : ent 𝓤 (onEntry 𝓤 H A roll.signature (κ, tt) (q, tt) x at₀) (WpFn 𝓤 H (𝓣 .C) (𝓣 .Λ) code.function (sliceVal (b, o)
+        (length ys) ∷ vint w64 f ∷ vint w64 m ∷ vbool d ∷ T′.lowered c₀ ∷ []) Post)
     walk =
-        qed W ((‵ (flft κ q) ⊛ ‵ ftrue) ∷ ‵ (owns (MutSlice (named 0) κ T.the-row ∷ usize ∷ usize ∷ bool ∷ T.the-row ∷ []) x at₀) ∷ []) ∵ enter ! (𝓣 .C) (𝓣 .Λ) code.function (sliceVal (b, o) (length ys) ∷ vint w64 f ∷ vint w64 m ∷ vbool d ∷ T′.lowered c₀ ∷ []) _ $
-        alloc1 ! (λ l₀. alloc1 ! (λ l₁. alloc1 ! (λ l₂. alloc1 ! (λ l₃. alloc1 ! (λ l₄. alloc1 ! (λ l₅. alloc1 ! (λ l₆. alloc1 ! (λ l₇. alloc1 ! (λ l₈. alloc1 ! (λ l₉. alloc1 ! (λ l₁₀. alloc1 ! (λ l₁₁. alloc1 ! (λ l₁₂. alloc1 ! (λ l₁₃. alloc1 ! (λ l₁₄. alloc0 ! $ params1 ! $
-        pass1 ! (init ! 26 refl (tt, (tt, (record { fits = gn .0 }, tt)))) $ pass1 ! (init ! 24 refl (tt, record { fits = f-fits })) $ pass1 ! (init ! 22 refl (tt, record { fits = m-fits })) $ pass1 ! (init ! 20 refl (tt, tt)) $ pass1 ! (init ! 18 refl (LL.lawful T.the-type T′.the-laws 𝓤 H A W .typed c₀ _ is-c .0)) $ pass0 ! $
+        qed W ((‵ (flft κ q) ⊛ ‵ ftrue) ∷ ‵ (owns (MutSlice (named 0) κ T.the-row ∷ usize ∷ usize ∷ bool ∷ T.the-row ∷ []) x at₀) ∷ []) ∵ enter !
+        (𝓣 .C) (𝓣 .Λ) code.function (sliceVal (b, o) (length ys) ∷ vint w64 f ∷ vint w64 m ∷ vbool d ∷ T′.lowered c₀ ∷ []) _ $
+        alloc1 ! (λ l₀. alloc1 ! (λ l₁. alloc1 ! (λ l₂. alloc1 ! (λ l₃. alloc1 ! (λ l₄. alloc1 ! (λ l₅. alloc1 ! (λ l₆. alloc1 ! (λ l₇. alloc1 !
+        (λ l₈. alloc1 ! (λ l₉. alloc1 ! (λ l₁₀. alloc1 ! (λ l₁₁. alloc1 ! (λ l₁₂. alloc1 ! (λ l₁₃. alloc1 ! (λ l₁₄. alloc0 ! $
+        params1 ! $
+        pass1 ! (init ! 26 refl (tt, (tt, (record { fits = gn .0 }, tt)))) $ pass1 ! (init ! 24 refl (tt, record { fits = f-fits })) $
+        pass1 ! (init ! 22 refl (tt, record { fits = m-fits })) $ pass1 ! (init ! 20 refl (tt, tt)) $
+        pass1 ! (init ! 18 refl (LL.lawful T.the-type T′.the-laws 𝓤 H A W .typed c₀ _ is-c .0)) $ pass0 ! $
         assigns ! (of-opd ! (load ! (from ! (stop !)) (look ! 24 refl))) (from ! (stop !)) (init ! 16 refl (tt, record { fits = f-fits })) $
         assigns ! (of-opd ! (load ! (from ! (stop !)) (look ! 22 refl))) (from ! (stop !)) (init ! 14 refl (tt, record { fits = m-fits })) $
-        assigns ! (of-opd ! (load ! (from ! (stop !)) (look ! 18 refl))) (from ! (stop !)) (init ! 12 refl (LL.lawful T.the-type T′.the-laws 𝓤 H A W .typed c₀ _ is-c .0)) $
+        assigns ! (of-opd ! (load ! (from ! (stop !)) (look ! 18 refl))) (from ! (stop !)) (init ! 12 refl
+        (LL.lawful T.the-type T′.the-laws 𝓤 H A W .typed c₀ _ is-c .0)) $
         -- the borrow is opened
         move ! (31 ∷ []) $ fsplit ! $ fsplit ! $ move ! (1 ∷ []) $ fsplit ! $ move ! (34 ∷ []) $ split ! $ move ! (2 ∷ 3 ∷ 0 ∷ []) $
         opens-slice ! tt T.the-row ys b o $
@@ -309,12 +391,41 @@ module _ {M : Type 1} (𝓤 : URA M) (H : Heap 𝓤) (A : Atoms 𝓤) (W : Given
 
 module _ {M : Type 1} (𝓤 : URA M) (H : Heap 𝓤) (A : Atoms 𝓤) (W : Given 𝓤 H A) (mem : Memory → SProp 𝓤) (run : Routine → Fun 𝓤) (𝓣 : Tables 𝓤 H) (known : Triple 𝓤 (𝓣 .C #entries·moved) (Moved 𝓤 H A mem run)) where
   roll-walks : Walks 𝓤 H A roll.ended stayed (WpFn 𝓤 H (𝓣 .C) (𝓣 .Λ) code.function) (roll.clauses 𝓤 H A mem run)
-  roll-walks = walked 𝓤 H A roll.ended stayed (roll.clauses 𝓤 H A mem run) (WpFn 𝓤 H (𝓣 .C) (𝓣 .Λ) code.function) (λ κs. (slice-vals, (uint-vals w64, (uint-vals w64, (bool-vals, (LL.vals T.the-type T′.the-laws, tt)))))) (λ κs. (mut-slice-tells (named 0) (κs .0) T.the-row, (uint-tells w64, (uint-tells w64, (bool-tells, (LL.tells T.the-type T′.the-laws, tt))))))
+  roll-walks =
+      walked 𝓤 H A roll.ended stayed (roll.clauses 𝓤 H A mem run) (WpFn 𝓤 H (𝓣 .C) (𝓣 .Λ) code.function) (λ κs. (
+        slice-vals,
+        (
+          uint-vals w64,
+          (uint-vals w64, (bool-vals, (LL.vals T.the-type T′.the-laws, tt))),
+        ),
+      )) (λ κs. (
+        mut-slice-tells (named 0) (κs .0) T.the-row,
+        (
+          uint-tells w64,
+          (uint-tells w64, (bool-tells, (LL.tells T.the-type T′.the-laws, tt))),
+        ),
+      ))
       (λ κs qs bounds a g are. needs 𝓤 (inside (a .1 .1 .1 .0) (a .1 .0) (a .1 .1 .0) (length (a .0 .now))) _ (λ into.
-      walk 𝓤 H A W mem run (κs .0) (qs .0) (a .0 .ptr .0) (a .0 .ptr .1) (a .0 .name) (a .0 .now) (a .1 .0) (a .1 .1 .0) (a .1 .1 .1 .0) (a .1 .1 .1 .1 .0) (are .0 .0 .1) (are .1 .0 .1) (are .1 .1 .0 .1) (are .1 .1 .1 .1 .0) into 𝓣 known))
+      walk 𝓤 H A W mem run (κs .0) (qs .0) (a .0 .ptr .0) (a .0 .ptr .1) (a .0 .name) (a .0 .now) (a .1 .0) (a .1 .1 .0) (a .1 .1 .1 .0)
+      (a .1 .1 .1 .1 .0) (are .0 .0 .1) (are .1 .0 .1) (are .1 .1 .0 .1) (are .1 .1 .1 .1 .0) into 𝓣 known))
 
   roll-meets : Meets 𝓤 H A roll.signature (WpFn 𝓤 H (𝓣 .C) (𝓣 .Λ) code.function) (roll.spec 𝓤 H A mem run)
-  roll-meets = walk-meets 𝓤 H A roll.ended stayed W (goes-slice 𝓤 H A W 1 0 tt (plain (λ _. T.the-row)), (goes-none 𝓤 H A W 1 (λ _. usize) yes (λ κs x f. refl), (goes-none 𝓤 H A W 1 (λ _. usize) yes (λ κs x f. refl), (goes-none 𝓤 H A W 1 (λ _. bool) yes (λ κs x f. refl), (goes-none 𝓤 H A W 1 (λ _. T.the-row) yes (λ κs x f. refl), tt))))) (roll.clauses 𝓤 H A mem run) (WpFn 𝓤 H (𝓣 .C) (𝓣 .Λ) code.function) (WpFn-mono 𝓤 H (W .laws) 𝓣 code.function) roll-walks
+  roll-meets =
+      walk-meets 𝓤 H A roll.ended stayed W (
+        goes-slice 𝓤 H A W 1 0 tt (plain (λ _. T.the-row)),
+        (
+          goes-none 𝓤 H A W 1 (λ _. usize) yes
+              (λ κs x f. refl),
+          (
+            goes-none 𝓤 H A W 1 (λ _. usize) yes (λ κs x f. refl),
+            (
+              goes-none 𝓤 H A W 1 (λ _. bool) yes (λ κs x f. refl),
+              (goes-none 𝓤 H A W 1 (λ _. T.the-row) yes (λ κs x f. refl), tt),
+            ),
+          ),
+        ),
+      ) (roll.clauses 𝓤 H A mem run) (WpFn 𝓤 H (𝓣 .C) (𝓣 .Λ) code.function)
+      (WpFn-mono 𝓤 H (W .laws) 𝓣 code.function) roll-walks
 
 pub roll-spec : {M : Type 1} → stated.statement M
 unfolding code.routine tablesOf

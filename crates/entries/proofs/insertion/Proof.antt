@@ -20,15 +20,18 @@ bad : (x : Look) (r : Entry) {b : Bool} {w : Plan} → b ≡ soundOf x → b ≡
 unfolding insertionOf
 bad x r s t e = e ∙ simp (sym s ∙ t)
 
-known : (x : Look) (r : Entry) {b : Bool} → b ≡ soundOf x → b ≡ true → x .found ≡ true → _≡_ {A = Plan} (record { from = x .at; count = 1; down = false; first = r; refusal = 0; total = x .n }) (insertionOf x r)
+known : (x : Look) (r : Entry) {b : Bool} → b ≡ soundOf x → b ≡ true → x .found ≡ true
+    → _≡_ {A = Plan} (record { from = x .at; count = 1; down = false; first = r; refusal = 0; total = x .n }) (insertionOf x r)
 unfolding insertionOf
 known x r s t f = simp (sym s ∙ t, f)
 
-full : (x : Look) (r : Entry) {b : Bool} {w : Plan} → b ≡ soundOf x → b ≡ true → x .found ≡ false → x .len ≤ x .n → w ≡ idleOf 10 (x .n) r → w ≡ insertionOf x r
+full : (x : Look) (r : Entry) {b : Bool} {w : Plan} → b ≡ soundOf x → b ≡ true → x .found ≡ false → x .len ≤ x .n → w ≡ idleOf 10 (x .n) r
+    → w ≡ insertionOf x r
 unfolding insertionOf
 full x r s t f l e = e ∙ simp (sym s ∙ t, f, le-ltb _ _ l)
 
-new : (x : Look) (r : Entry) {b : Bool} → b ≡ soundOf x → b ≡ true → x .found ≡ false → x .n < x .len → _≡_ {A = Plan} (record { from = x .at; count = x .n - x .at + 1; down = false; first = r; refusal = 0; total = x .n + 1 }) (insertionOf x r)
+new : (x : Look) (r : Entry) {b : Bool} → b ≡ soundOf x → b ≡ true → x .found ≡ false → x .n < x .len
+    → _≡_ {A = Plan} (record { from = x .at; count = x .n - x .at + 1; down = false; first = r; refusal = 0; total = x .n + 1 }) (insertionOf x r)
 unfolding insertionOf
 new x r s t f l = simp (sym s ∙ t, f, lt-ltb _ _ l)
 
@@ -54,10 +57,13 @@ returns-2 : tie.Need-returns-2
 returns-2 c = known _ _ (c .before .before .is-sound .ensures) (not-false _ (c .before .if1 .left)) (c .if2 .taken)
 
 returns-3 : tie.Need-returns-3
-returns-3 c = full _ _ (c .before .before .before .before .is-sound .ensures) (not-false _ (c .before .before .before .if1 .left)) (c .before .before .if2 .left) (c .before .if3 .taken) (c .idle2 .ensures)
+returns-3 c =
+    full _ _ (c .before .before .before .before .is-sound .ensures) (not-false _ (c .before .before .before .if1 .left))
+    (c .before .before .if2 .left) (c .before .if3 .taken) (c .idle2 .ensures)
 
 returns-4 : tie.Need-returns-4
-returns-4 c = new _ _ (c .before .before .before .is-sound .ensures) (not-false _ (c .before .before .if1 .left)) (c .before .if2 .left) (c .if3 .left)
+returns-4 c =
+    new _ _ (c .before .before .before .is-sound .ensures) (not-false _ (c .before .before .if1 .left)) (c .before .if2 .left) (c .if3 .left)
 
 pub insertion-spec : {M : Type 1} → statement M
 insertion-spec = tie.close (tie.spec is-sound-requires idle-requires returns returns-2 idle-requires-2 returns-3 sub-t9 add-t10 add-t11 returns-4)

@@ -17,11 +17,13 @@ sub-t10 : tie.Need-sub-t10
 sub-t10 c = search needs
 
 -- each arm, on values
-good : (x : Look) (room : ℕ) {b : Bool} → b ≡ soundOf x → b ≡ true → _≡_ {A = Show} (record { from = x .at; count = room - x .left; wiped = 0; refusal = 0; more = x .more; next = x .next }) (shownOf x room)
+good : (x : Look) (room : ℕ) {b : Bool} → b ≡ soundOf x → b ≡ true
+    → _≡_ {A = Show} (record { from = x .at; count = room - x .left; wiped = 0; refusal = 0; more = x .more; next = x .next }) (shownOf x room)
 unfolding shownOf
 good x room s t = simp (sym s ∙ t)
 
-bad : (x : Look) (room : ℕ) {b : Bool} → b ≡ soundOf x → b ≡ false → _≡_ {A = Show} (record { from = 0; count = 0; wiped = room; refusal = 9; more = false; next = 0 }) (shownOf x room)
+bad : (x : Look) (room : ℕ) {b : Bool} → b ≡ soundOf x → b ≡ false
+    → _≡_ {A = Show} (record { from = 0; count = 0; wiped = room; refusal = 9; more = false; next = 0 }) (shownOf x room)
 unfolding shownOf
 bad x room s t = simp (sym s ∙ t)
 

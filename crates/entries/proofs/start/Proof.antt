@@ -1,4 +1,4 @@
--- `entries::start` meets its contract: each return is the arm that its tests pick.
+-- `entries::start` meets its contract, by that of `least`.
 use borrow.Author.Needs.{needs}
 use Rattle.entries.proofs.start.Statement.{statement}
 use Rattle.entries.proofs.start.Tie as tie

@@ -1,4 +1,4 @@
--- `entries::wipe` meets its contract: each return is the arm that its tests pick.
+-- `entries::wipe` meets its contract. After i turns the first i numbers are zeros and the others are left.
 use borrow.Author.Needs.{needs}
 use native.Mathlib.Omega.{arith}
 use mathlib.Core.Path.{_≡_, refl, ap, _∙_}
@@ -33,13 +33,23 @@ loop-less : tie.Need-loop-less Inv-loop μ-loop
 loop-less c = search needs
 
 loop-again : tie.Need-loop-again Inv-loop μ-loop
-loop-again c = (ap (λ (l : List ℕ). set l (c .before .loop .i) 0) (c .before .loop .inv .0) ∙ fill-more (c .before .loop .i) 0 (c .before .before .args .out .now) (omega arith), (omega arith, length-set (c .before .loop .out) (c .before .loop .i) 0 ∙ c .before .loop .inv .1 .1))
+loop-again c = (
+  ap (λ (l : List ℕ). set l (c .before .loop .i) 0) (c .before .loop .inv .0) ∙ fill-more (c .before .loop .i) 0
+      (c .before .before .args .out .now) (omega arith),
+  (
+    omega arith,
+    length-set (c .before .loop .out) (c .before .loop .i) 0
+        ∙ c .before .loop .inv .1 .1,
+  ),
+)
 
 same-length : tie.Need-same-length Inv-loop μ-loop
 same-length c = search needs
 
 returns : tie.Need-returns Inv-loop μ-loop
-returns c = c .before .loop .inv .0 ∙ ap (λ (k : ℕ). wiped k (c .before .before .args .out .now)) (le-antisymm (c .before .loop .inv .1 .0) (c .loop-test .left))
+returns c =
+    c .before .loop .inv .0
+    ∙ ap (λ (k : ℕ). wiped k (c .before .before .args .out .now)) (le-antisymm (c .before .loop .inv .1 .0) (c .loop-test .left))
 
 pub wipe-spec : {M : Type 1} → statement M
 wipe-spec = tie.close (tie.spec Inv-loop μ-loop loop-holds mul-out slice-write-out add-i loop-less loop-again same-length returns)

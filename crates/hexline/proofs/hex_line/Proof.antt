@@ -19,7 +19,11 @@ same-length c = search needs
 returns : tie.Need-returns
 returns c =
     let e = c .before .before .before .before .before .line-refusal .ensures in
-    record { answer = e; line = c .before .before .clear .ensures ∙ refused-line _ _ _ _ _ (λ z. c .before .before .before .before .if1 .taken (e ∙ z)) }
+    record {
+      answer = e;
+      line = c .before .before .clear .ensures ∙ refused-line _ _ _ _ _ (λ z. c .before .before .before .before .if1 .taken (e
+          ∙ z));
+    }
 
 -- what the tests have shown
 shown : (c : tie.Else1)
@@ -37,8 +41,10 @@ spot-of-requires c κs =
 
 fill-line-requires : tie.Need-fill-line-requires
 fill-line-requires c κs =
-    let a = shown (c .before .before .before) in
-    (unit-fits _ (c .before .before .before .before .before .before .before .args .image .now) _ _ _ _ a (c .before .spot-of .ensures .0), a .valid .few-bytes)
+    let a = shown (c .before .before .before) in (
+      unit-fits _ (c .before .before .before .before .before .before .before .args .image .now) _ _ _ _ a (c .before .spot-of .ensures .0),
+      a .valid .few-bytes,
+    )
 
 same-length-2 : tie.Need-same-length-2
 same-length-2 c = search needs
