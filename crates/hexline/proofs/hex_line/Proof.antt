@@ -19,18 +19,16 @@ same-length c = search needs
 returns : tie.Need-returns
 returns c =
     let e = c .before .before .before .before .before .line-refusal .ensures in
-    record {
-      answer = e;
-      line = c .before .before .clear .ensures ∙ refused-line _ _ _ _ _ (λ z. c .before .before .before .before .if1 .taken (e
-          ∙ z));
-    }
+    record { answer = e; line = c .before .before .clear .ensures ∙ refused-line _ _ _ _ _ (λ z. omega (arith, e ∙ z)) }
 
 -- what the tests have shown
 shown : (c : tie.Else1)
     → Accepted (c .before .before .before .before .args .y) (length (c .before .before .before .before .args .image .now))
     (c .before .before .before .before .args .target) (c .before .before .before .before .args .frame)
     (length (c .before .before .before .before .args .line .now))
-shown c = accepted-line _ _ _ _ _ (sym (c .before .line-refusal .ensures) ∙ c .if1 .left)
+shown c =
+    let zero : c .before .line-refusal .result ≡ 0 = omega arith in
+    accepted-line _ _ _ _ _ (sym (c .before .line-refusal .ensures) ∙ zero)
 
 shape-of-requires : tie.Need-shape-of-requires
 shape-of-requires c κs = shown c .valid
