@@ -1,5 +1,5 @@
 -- `hexline::hex_line` meets its contract. Refused, the line is zeros; accepted, what was tested is what the place and the line ask for.
-use mathlib.Core.Path.{sym, _∙_}
+use mathlib.Core.Path.{_≡_, sym, _∙_}
 use native.Mathlib.Omega.{arith}
 use lib.ListN.{length}
 use borrow.Author.Needs.{needs}
