@@ -1,11 +1,10 @@
 -- The elements of a list that pass a test, in their order; and a list with other elements in its first places.
-use mathlib.Core.Path.{_≡_, refl, sym, ap, _∙_}
+use mathlib.Core.Path.{_≡_, refl, ap, _∙_}
 use mathlib.Core.Bool.{Bool, true, false}
 use mathlib.Core.List.{List, [], _∷_, _++_}
 use Prim.Native.Nat.{ℕ, zero, suc, _<_}
 use native.Mathlib.Omega.{arith}
 use lib.ListN.{length, drop, replicate}
-use lib.Seq.{drop-append-seam}
 use Rattle.lists.specs.Pick.{pick, clash}
 use Rattle.lists.specs.Tabulate.{tabulate, zeros}
 
@@ -66,11 +65,6 @@ module _ {A : Type 0} where
   pub passing-stronger : (p q : A → Bool) (xs : List A) → ((x : A) → p x ≡ true → q x ≡ true) → passing p (passing q xs) ≡ passing p xs
   passing-stronger p q [] h = refl
   passing-stronger p q (x ∷ xs) h = stronger-on p (q x) (p x) x (passing q xs) xs refl (h x) (passing-stronger p q xs h)
-
-  -- ---- what lies beyond the first places is left
-
-  pub over-beyond : (zs ys : List A) → drop (length zs) (over zs ys) ≡ drop (length zs) ys
-  over-beyond zs ys = drop-append-seam zs (drop (length zs) ys)
 
 pub replicate-zeros : (n : ℕ) → replicate n 0 ≡ zeros n
 unfolding tabulate
