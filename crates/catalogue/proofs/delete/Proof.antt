@@ -195,26 +195,7 @@ module _ {M : Type 1} (𝓤 : URA M) (H : Heap 𝓤) (A : Atoms 𝓤) (W : Given
       owned ! K.the-row (Is K.the-row) (LL.makes K.the-type K′.the-plain 𝓤 H A) r _ is $ fjoin ! $ says ! in-place $ nothing ! $ join ! $ done !
 
   abbrev to-roll : ℕ → GName → PlanT → Roll 𝓤 H A mem run .Ghost
-  to-roll ν δ w = (
-    (
-      (ν ∷ [], tt),
-      (fullShare, tt),
-      tt,
-      (s δ ys, (w .from, (w .count, (w .down, (w .first, tt))))),
-      (
-        v ∷ [],
-        (
-          vint w64 (w .from) ∷ [],
-          (
-            vint w64
-                (w .count) ∷ [],
-            (vbool (w .down) ∷ [], (T′.lowered (w .first) ∷ [], tt)),
-          ),
-        ),
-      ),
-    ),
-    tt,
-  )
+  to-roll ν δ w = (((ν ∷ [], tt), (fullShare, tt), tt, (s δ ys, (w .from, (w .count, (w .down, (w .first, tt))))), (v ∷ [], (vint w64 (w .from) ∷ [], (vint w64 (w .count) ∷ [], (vbool (w .down) ∷ [], (T′.lowered (w .first) ∷ [], tt)))))), tt)
 
   goes-roll : (ν : ℕ) (δ : GName) (w : PlanT) → w .from < 2 ^ 64 → w .count < 2 ^ 64 → Is T.the-row (w .first) (T′.lowered (w .first) ∷ [])
       → inside (w .down) (w .from) (w .count) (length ys)
@@ -363,37 +344,14 @@ module _ {M : Type 1} (𝓤 : URA M) (H : Heap 𝓤) (A : Atoms 𝓤) (W : Given
     (known-outcome : Triple 𝓤 (𝓣 .C #entries·outcome) (Outcome 𝓤 H A mem run)) where
   delete-walks : Walks 𝓤 H A delete.ended stayed (WpFn 𝓤 H (𝓣 .C) (𝓣 .Λ) code.function) (delete.clauses 𝓤 H A mem run)
   delete-walks =
-      walked 𝓤 H A delete.ended stayed (delete.clauses 𝓤 H A mem run) (WpFn 𝓤 H (𝓣 .C) (𝓣 .Λ) code.function) (λ κs. (
-        slice-vals,
-        (
-          uint-vals w64,
-          (LL.vals T.the-type T′.the-laws, tt),
-        ),
-      )) (λ κs. (
-        mut-slice-tells (named 0) (κs .0) T.the-row,
-        (
-          uint-tells w64,
-          (
-            LL.tells T.the-type T′.the-laws,
-            tt,
-          ),
-        ),
-      ))
+      walked 𝓤 H A delete.ended stayed (delete.clauses 𝓤 H A mem run) (WpFn 𝓤 H (𝓣 .C) (𝓣 .Λ) code.function) (λ κs. (slice-vals, (uint-vals w64, (LL.vals T.the-type T′.the-laws, tt)))) (λ κs. (mut-slice-tells (named 0) (κs .0) T.the-row, (uint-tells w64, (LL.tells T.the-type T′.the-laws, tt))))
       (λ κs qs bounds a g are. via 𝓤 _ (fst∗ 𝓤 _ (emp 𝓤)) (walk 𝓤 H A W mem run (κs .0) (qs .0) (a .0 .ptr .0) (a .0 .ptr .1) (a .0 .name)
       (a .0 .now) (a .1 .0) (a .1 .1 .0) (are .0 .0 .1) (are .1 .0 .1) (are .1 .1 .0) (𝓣 .C) (𝓣 .Λ) (fmOf 𝓤 H
       (W .laws) 𝓣) known-key known-scan known-plan known-roll known-outcome))
 
   delete-meets : Meets 𝓤 H A delete.signature (WpFn 𝓤 H (𝓣 .C) (𝓣 .Λ) code.function) (delete.spec 𝓤 H A mem run)
   delete-meets =
-      walk-meets 𝓤 H A delete.ended stayed W (
-        goes-slice 𝓤 H A W 1 0 tt (plain (λ _. T.the-row)),
-        (
-          goes-none 𝓤 H A W 1 (λ _. usize) yes
-              (λ κs x f. refl),
-          (goes-none 𝓤 H A W 1 (λ _. T.the-row) yes (λ κs x f. refl), tt),
-        ),
-      ) (delete.clauses 𝓤 H A mem run) (WpFn 𝓤 H (𝓣 .C)
-      (𝓣 .Λ) code.function) (WpFn-mono 𝓤 H (W .laws) 𝓣 code.function) delete-walks
+      walk-meets 𝓤 H A delete.ended stayed W (goes-slice 𝓤 H A W 1 0 tt (plain (λ _. T.the-row)), (goes-none 𝓤 H A W 1 (λ _. usize) yes (λ κs x f. refl), (goes-none 𝓤 H A W 1 (λ _. T.the-row) yes (λ κs x f. refl), tt))) (delete.clauses 𝓤 H A mem run) (WpFn 𝓤 H (𝓣 .C) (𝓣 .Λ) code.function) (WpFn-mono 𝓤 H (W .laws) 𝓣 code.function) delete-walks
 
 pub delete-spec : {M : Type 1} → stated.statement M
 unfolding code.routine tablesOf

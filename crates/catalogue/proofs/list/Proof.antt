@@ -99,20 +99,7 @@ record Turn (m f : ℕ) (ys : List Entry) (os : List ℕ) : Type 0 where
   kept : zs ≡ listed i f ys os
 
 abbrev stayed : Stays (list.ended .signature .params) (list.ended .kept)
-stayed = (
-  stay-none-slice (0 ∷ []) tt (plain (λ _. T.the-row)) yes,
-  (
-    stay-none (λ _. usize) yes,
-    (
-      stay-slice (1 ∷ []) tt (plain (λ _. u64)),
-      (
-        stay-none
-            (λ _. usize) yes,
-        tt,
-      ),
-    ),
-  ),
-)
+stayed = (stay-none-slice (0 ∷ []) tt (plain (λ _. T.the-row)) yes, (stay-none (λ _. usize) yes, (stay-slice (1 ∷ []) tt (plain (λ _. u64)), (stay-none (λ _. usize) yes, tt))))
 
 module _ {M : Type 1} (𝓤 : URA M) (H : Heap 𝓤) (A : Atoms 𝓤) (W : Given 𝓤 H A) (mem : Memory → SProp 𝓤) (run : Routine → Fun 𝓤) (κ κ₂ : Lft) (q q₂ : Share) (b o : ℕ) (γ : GName) (ys : List Entry) (f : ℕ) (b₂ o₂ : ℕ) (γ₂ : GName) (os : List ℕ) (m : ℕ)
     (gn : Room T.the-row (length ys)) (f-fits : f < 2 ^ 64) (go : Room u64 (length os)) (m-fits : m < 2 ^ 64) (within : (f + m ≤ length ys) ×
@@ -137,13 +124,7 @@ module _ {M : Type 1} (𝓤 : URA M) (H : Heap 𝓤) (A : Atoms 𝓤) (W : Given
       → ent 𝓤 (⋆ 𝓤 H A (Obs zs ∷ ‵ (fbor κ₂ (Held u64 (length zs) b₂ o₂ γ₂)) ∷ ‵ (flft κ₂ q₂) ∷ ‵ (flft κ q) ∷ Own ∷ [])) (Post vunit)
   exits zs same e =
       qed W (Obs zs ∷ ‵ (fbor κ₂ (Held u64 (length zs) b₂ o₂ γ₂)) ∷ ‵ (flft κ₂ q₂) ∷ ‵ (flft κ q) ∷ Own ∷ []) ∵
-      suffices ! _ (ends-at 𝓤 H A list.ended stayed (list.clauses 𝓤 H A mem run) W (((κ, (κ₂, tt)), (q, (q₂, tt)), tt, x, at), tt) vunit tt (
-        tt,
-        (
-          tt,
-          (zs, (tt, tt)),
-        ),
-      ) (tt, (tt, (same, (tt, tt))))) $
+      suffices ! _ (ends-at 𝓤 H A list.ended stayed (list.clauses 𝓤 H A mem run) W (((κ, (κ₂, tt)), (q, (q₂, tt)), tt, x, at), tt) vunit tt (tt, (tt, (zs, (tt, tt)))) (tt, (tt, (same, (tt, tt))))) $
       says ! e $
       nothing ! $ move ! (3 ∷ 0 ∷ []) $ join ! $ move ! (3 ∷ 0 ∷ []) $ join ! $ frame ! $
       fjoin ! $
@@ -327,23 +308,7 @@ module _ {M : Type 1} (𝓤 : URA M) (H : Heap 𝓤) (A : Atoms 𝓤) (W : Given
 module _ {M : Type 1} (𝓤 : URA M) (H : Heap 𝓤) (A : Atoms 𝓤) (W : Given 𝓤 H A) (mem : Memory → SProp 𝓤) (run : Routine → Fun 𝓤) (𝓣 : Tables 𝓤 H) where
   list-walks : Walks 𝓤 H A list.ended stayed (WpFn 𝓤 H (𝓣 .C) (𝓣 .Λ) code.function) (list.clauses 𝓤 H A mem run)
   list-walks =
-      walked 𝓤 H A list.ended stayed (list.clauses 𝓤 H A mem run) (WpFn 𝓤 H (𝓣 .C) (𝓣 .Λ) code.function) (λ κs. (
-        slice-vals,
-        (
-          uint-vals w64,
-          (slice-vals, (uint-vals w64, tt)),
-        ),
-      )) (λ κs. (
-        shr-slice-tells (named 0) (κs .0) T.the-row,
-        (
-          uint-tells w64,
-          (
-            mut-slice-tells (named 1)
-                (κs .1 .0) u64,
-            (uint-tells w64, tt),
-          ),
-        ),
-      ))
+      walked 𝓤 H A list.ended stayed (list.clauses 𝓤 H A mem run) (WpFn 𝓤 H (𝓣 .C) (𝓣 .Λ) code.function) (λ κs. (slice-vals, (uint-vals w64, (slice-vals, (uint-vals w64, tt))))) (λ κs. (shr-slice-tells (named 0) (κs .0) T.the-row, (uint-tells w64, (mut-slice-tells (named 1) (κs .1 .0) u64, (uint-tells w64, tt)))))
       (λ κs qs bounds a g are. needs 𝓤 ((a .1 .0 + a .1 .1 .1 .0 ≤ length (a .0 .now)) × (a .1 .1 .1 .0 ≤ length (a .1 .1 .0 .now))) _ (λ within.
       walk 𝓤 H A W mem run (κs .0) (κs .1 .0) (qs .0) (qs .1 .0) (a .0 .ptr .0) (a .0 .ptr .1) (a .0 .name) (a .0 .now) (a .1 .0)
       (a .1 .1 .0 .ptr .0) (a .1 .1 .0 .ptr .1) (a .1 .1 .0 .name) (a .1 .1 .0 .now) (a .1 .1 .1 .0) (are .0 .0 .1) (are .1 .0 .1)
@@ -351,14 +316,7 @@ module _ {M : Type 1} (𝓤 : URA M) (H : Heap 𝓤) (A : Atoms 𝓤) (W : Given
 
   list-meets : Meets 𝓤 H A list.signature (WpFn 𝓤 H (𝓣 .C) (𝓣 .Λ) code.function) (list.spec 𝓤 H A mem run)
   list-meets =
-      walk-meets 𝓤 H A list.ended stayed W (
-        goes-none-slice 𝓤 H A W 2 (0 ∷ []) tt (plain (λ _. T.the-row)) yes,
-        (
-          goes-none 𝓤 H A W 2 (λ _. usize) yes
-              (λ κs x f. refl),
-          (goes-slice 𝓤 H A W 2 1 tt (plain (λ _. u64)), (goes-none 𝓤 H A W 2 (λ _. usize) yes (λ κs x f. refl), tt)),
-        ),
-      )
+      walk-meets 𝓤 H A list.ended stayed W (goes-none-slice 𝓤 H A W 2 (0 ∷ []) tt (plain (λ _. T.the-row)) yes, (goes-none 𝓤 H A W 2 (λ _. usize) yes (λ κs x f. refl), (goes-slice 𝓤 H A W 2 1 tt (plain (λ _. u64)), (goes-none 𝓤 H A W 2 (λ _. usize) yes (λ κs x f. refl), tt))))
       (list.clauses 𝓤 H A mem run) (WpFn 𝓤 H (𝓣 .C) (𝓣 .Λ) code.function) (WpFn-mono 𝓤 H (W .laws) 𝓣 code.function) list-walks
 
 pub list-spec : {M : Type 1} → stated.statement M

@@ -83,20 +83,7 @@ use Rattle.catalogue.proofs.listing.Statement as stated
 use Rattle.catalogue.proofs.listing.Code as code
 
 abbrev stayed : Stays (listing.ended .signature .params) (listing.ended .kept)
-stayed = (
-  stay-none-slice (0 ∷ []) tt (plain (λ _. T.the-row)) yes,
-  (
-    stay-none (λ _. usize) yes,
-    (
-      stay-none (λ _. Y.the-row) yes,
-      (
-        stay-slice (1 ∷ []) tt
-            (plain (λ _. u64)),
-        tt,
-      ),
-    ),
-  ),
-)
+stayed = (stay-none-slice (0 ∷ []) tt (plain (λ _. T.the-row)) yes, (stay-none (λ _. usize) yes, (stay-none (λ _. Y.the-row) yes, (stay-slice (1 ∷ []) tt (plain (λ _. u64)), tt))))
 
 module _ {M : Type 1} (𝓤 : URA M) (H : Heap 𝓤) (A : Atoms 𝓤) (mem : Memory → SProp 𝓤) (run : Routine → Fun 𝓤) where
   -- the contracts that the proof cites
@@ -164,13 +151,7 @@ module _ {M : Type 1} (𝓤 : URA M) (H : Heap 𝓤) (A : Atoms 𝓤) (W : Given
       → Is D.the-row d (u ∷ []) → ent 𝓤 (⋆ 𝓤 H A (Own₂ zs ∷ ‵ (flft κ₂ q₂) ∷ ‵ (flft κ q) ∷ Own ∷ [])) (Post u)
   exits d u w zs l e₂ e₃ e₄ is =
       qed W (Own₂ zs ∷ ‵ (flft κ₂ q₂) ∷ ‵ (flft κ q) ∷ Own ∷ []) ∵
-      suffices ! _ (ends-at 𝓤 H A listing.ended stayed (listing.clauses 𝓤 H A mem run) W (((κ, (κ₂, tt)), (q, (q₂, tt)), tt, x, at), tt) u d (
-        tt,
-        (
-          tt,
-          (tt, (zs, tt)),
-        ),
-      ) (tt, (tt, (tt, (l, tt))))) $
+      suffices ! _ (ends-at 𝓤 H A listing.ended stayed (listing.clauses 𝓤 H A mem run) W (((κ, (κ₂, tt)), (q, (q₂, tt)), tt, x, at), tt) u d (tt, (tt, (tt, (zs, tt)))) (tt, (tt, (tt, (l, tt))))) $
       says ! (record {
         answer = e₄ ∙ ap reportOf e₂ ∙ listing-report k n ys os;
         output = e₃ ∙ ap (λ (z : Show). output z ys os) e₂
@@ -206,25 +187,7 @@ module _ {M : Type 1} (𝓤 : URA M) (H : Heap 𝓤) (A : Atoms 𝓤) (W : Given
       owned ! K.the-row (Is K.the-row) (LL.makes K.the-type K′.the-plain 𝓤 H A) r _ is $ fjoin ! $ says ! h $ nothing ! $ join ! $ done !
 
   abbrev to-list : ℕ → GName → Show → ListC 𝓤 H A mem run .Ghost
-  to-list ν δ w = (
-    (
-      (κ, (ν ∷ [], tt)),
-      (q, (fullShare, tt)),
-      tt,
-      (s, (w .from, (s₂ δ os, (w .count, tt)))),
-      (
-        v ∷ [],
-        (
-          vint w64 (w .from) ∷ [],
-          (
-            v₂ ∷ [],
-            (vint w64 (w .count) ∷ [], tt),
-          ),
-        ),
-      ),
-    ),
-    tt,
-  )
+  to-list ν δ w = (((κ, (ν ∷ [], tt)), (q, (fullShare, tt)), tt, (s, (w .from, (s₂ δ os, (w .count, tt)))), (v ∷ [], (vint w64 (w .from) ∷ [], (v₂ ∷ [], (vint w64 (w .count) ∷ [], tt))))), tt)
 
   goes-list : (ν : ℕ) (δ : GName) (w : Show) → w .from < 2 ^ 64 → w .count < 2 ^ 64 → (w .from + w .count ≤ length ys) × (w .count ≤ length os)
       → ent 𝓤 (sep 𝓤 (sep 𝓤 (A .lft κ q) (A .lft (ν ∷ []) fullShare)) (sep 𝓤 (sem 𝓤 H A (ShrSlice (named 0) κ T.the-row .own s (v ∷ []))) (sem 𝓤 H A
@@ -369,16 +332,7 @@ module _ {M : Type 1} (𝓤 : URA M) (H : Heap 𝓤) (A : Atoms 𝓤) (W : Given
         await ! tt $ pick ! (λ r₃.
         -- what `list` ensures, at some last list
         split ! $ move ! (1 ∷ []) $
-        use1 W (some (λ (zs : Unit {0} × (Unit {0} × (List ℕ × (Unit {0} × Unit {0})))). ‵ (lasts list.ended (κ, (ν ∷ [], tt)) (
-          s,
-          (
-            w .from,
-            (
-              s₂ δ os,
-              (w .count, tt),
-            ),
-          ),
-        ) zs) ⊛ raw (fact 𝓤 (zs .1 .1 .0 ≡ listed (w .count) (w .from) ys os)))) (id⊢ 𝓤 _) $
+        use1 W (some (λ (zs : Unit {0} × (Unit {0} × (List ℕ × (Unit {0} × Unit {0})))). ‵ (lasts list.ended (κ, (ν ∷ [], tt)) (s, (w .from, (s₂ δ os, (w .count, tt)))) zs) ⊛ raw (fact 𝓤 (zs .1 .1 .0 ≡ listed (w .count) (w .from) ys os)))) (id⊢ 𝓤 _) $
         pick ! (λ zs.
         split ! $ move ! (1 ∷ []) $ heard ! (zs .1 .1 .0 ≡ listed (w .count) (w .from) ys os) (λ e₃. fsplit ! $ drop ! $ fsplit ! $ drop ! $
         fsplit ! $ fsplit ! $ move ! (1 ∷ []) $ feqL ! (λ l.
@@ -445,19 +399,7 @@ module _ {M : Type 1} (𝓤 : URA M) (H : Heap 𝓤) (A : Atoms 𝓤) (W : Given
     (known-report : Triple 𝓤 (𝓣 .C #entries·report) (Report 𝓤 H A mem run)) where
   listing-walks : Walks 𝓤 H A listing.ended stayed (WpFn 𝓤 H (𝓣 .C) (𝓣 .Λ) code.function) (listing.clauses 𝓤 H A mem run)
   listing-walks =
-      walked 𝓤 H A listing.ended stayed (listing.clauses 𝓤 H A mem run) (WpFn 𝓤 H (𝓣 .C) (𝓣 .Λ) code.function) (λ κs. (
-        slice-vals,
-        (
-          uint-vals w64,
-          (LL.vals Y.the-type Y′.the-laws, (slice-vals, tt)),
-        ),
-      )) (λ κs. (
-        shr-slice-tells (named 0) (κs .0) T.the-row,
-        (
-          uint-tells w64,
-          (LL.tells Y.the-type Y′.the-laws, (mut-slice-tells (named 1) (κs .1 .0) u64, tt)),
-        ),
-      ))
+      walked 𝓤 H A listing.ended stayed (listing.clauses 𝓤 H A mem run) (WpFn 𝓤 H (𝓣 .C) (𝓣 .Λ) code.function) (λ κs. (slice-vals, (uint-vals w64, (LL.vals Y.the-type Y′.the-laws, (slice-vals, tt))))) (λ κs. (shr-slice-tells (named 0) (κs .0) T.the-row, (uint-tells w64, (LL.tells Y.the-type Y′.the-laws, (mut-slice-tells (named 1) (κs .1 .0) u64, tt)))))
       (λ κs qs bounds a g are. via 𝓤 _ (fst∗ 𝓤 _ (emp 𝓤)) (walk 𝓤 H A W mem run (κs .0) (κs .1 .0) (qs .0) (qs .1 .0) (a .0 .ptr .0) (a .0 .ptr .1)
       (a .0 .name) (a .0 .now) (a .1 .0) (a .1 .1 .0) (a .1 .1 .1 .0 .ptr .0) (a .1 .1 .1 .0 .ptr .1) (a .1 .1 .1 .0 .name) (a .1 .1 .1 .0 .now)
       (are .0 .0 .1) (are .1 .0 .1) (are .1 .1 .0) (are .1 .1 .1 .0 .0 .1) (𝓣 .C) (𝓣 .Λ) (fmOf 𝓤 H
@@ -465,20 +407,7 @@ module _ {M : Type 1} (𝓤 : URA M) (H : Heap 𝓤) (A : Atoms 𝓤) (W : Given
 
   listing-meets : Meets 𝓤 H A listing.signature (WpFn 𝓤 H (𝓣 .C) (𝓣 .Λ) code.function) (listing.spec 𝓤 H A mem run)
   listing-meets =
-      walk-meets 𝓤 H A listing.ended stayed W (
-        goes-none-slice 𝓤 H A W 2 (0 ∷ []) tt (plain (λ _. T.the-row)) yes,
-        (
-          goes-none 𝓤 H A W 2
-              (λ _. usize) yes (λ κs x f. refl),
-          (
-            goes-none 𝓤 H A W 2 (λ _. Y.the-row) yes (λ κs x f. refl),
-            (
-              goes-slice 𝓤 H A W 2 1 tt (plain (λ _. u64)),
-              tt,
-            ),
-          ),
-        ),
-      ) (listing.clauses 𝓤 H A mem run) (WpFn 𝓤 H (𝓣 .C) (𝓣 .Λ) code.function) (WpFn-mono 𝓤 H (W .laws) 𝓣 code.function) listing-walks
+      walk-meets 𝓤 H A listing.ended stayed W (goes-none-slice 𝓤 H A W 2 (0 ∷ []) tt (plain (λ _. T.the-row)) yes, (goes-none 𝓤 H A W 2 (λ _. usize) yes (λ κs x f. refl), (goes-none 𝓤 H A W 2 (λ _. Y.the-row) yes (λ κs x f. refl), (goes-slice 𝓤 H A W 2 1 tt (plain (λ _. u64)), tt)))) (listing.clauses 𝓤 H A mem run) (WpFn 𝓤 H (𝓣 .C) (𝓣 .Λ) code.function) (WpFn-mono 𝓤 H (W .laws) 𝓣 code.function) listing-walks
 
 pub listing-spec : {M : Type 1} → stated.statement M
 unfolding code.routine tablesOf

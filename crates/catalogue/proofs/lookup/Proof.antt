@@ -172,36 +172,13 @@ module _ {M : Type 1} (𝓤 : URA M) (H : Heap 𝓤) (A : Atoms 𝓤) (W : Given
     (known-scan : Triple 𝓤 (𝓣 .C #catalogue·scan) (Scan 𝓤 H A mem run)) (known-answer : Triple 𝓤 (𝓣 .C #entries·answer) (Answer 𝓤 H A mem run)) where
   lookup-walks : Walks 𝓤 H A lookup.ended stayed (WpFn 𝓤 H (𝓣 .C) (𝓣 .Λ) code.function) (lookup.clauses 𝓤 H A mem run)
   lookup-walks =
-      walked 𝓤 H A lookup.ended stayed (lookup.clauses 𝓤 H A mem run) (WpFn 𝓤 H (𝓣 .C) (𝓣 .Λ) code.function) (λ κs. (
-        slice-vals,
-        (
-          uint-vals w64,
-          (LL.vals Y.the-type Y′.the-laws, tt),
-        ),
-      )) (λ κs. (
-        shr-slice-tells (named 0) (κs .0) T.the-row,
-        (
-          uint-tells w64,
-          (
-            LL.tells Y.the-type Y′.the-laws,
-            tt,
-          ),
-        ),
-      ))
+      walked 𝓤 H A lookup.ended stayed (lookup.clauses 𝓤 H A mem run) (WpFn 𝓤 H (𝓣 .C) (𝓣 .Λ) code.function) (λ κs. (slice-vals, (uint-vals w64, (LL.vals Y.the-type Y′.the-laws, tt)))) (λ κs. (shr-slice-tells (named 0) (κs .0) T.the-row, (uint-tells w64, (LL.tells Y.the-type Y′.the-laws, tt))))
       (λ κs qs bounds a g are. via 𝓤 _ (fst∗ 𝓤 _ (emp 𝓤)) (walk 𝓤 H A W mem run (κs .0) (qs .0) (a .0 .ptr .0) (a .0 .ptr .1) (a .0 .name)
       (a .0 .now) (a .1 .0) (a .1 .1 .0) (are .0 .0 .1) (are .1 .0 .1) (are .1 .1 .0) (𝓣 .C) (𝓣 .Λ) (fmOf 𝓤 H (W .laws) 𝓣) known-scan known-answer))
 
   lookup-meets : Meets 𝓤 H A lookup.signature (WpFn 𝓤 H (𝓣 .C) (𝓣 .Λ) code.function) (lookup.spec 𝓤 H A mem run)
   lookup-meets =
-      walk-meets 𝓤 H A lookup.ended stayed W (
-        goes-none-slice 𝓤 H A W 1 (0 ∷ []) tt (plain (λ _. T.the-row)) yes,
-        (
-          goes-none 𝓤 H A W 1
-              (λ _. usize) yes (λ κs x f. refl),
-          (goes-none 𝓤 H A W 1 (λ _. Y.the-row) yes (λ κs x f. refl), tt),
-        ),
-      ) (lookup.clauses 𝓤 H A mem run) (WpFn 𝓤 H
-      (𝓣 .C) (𝓣 .Λ) code.function) (WpFn-mono 𝓤 H (W .laws) 𝓣 code.function) lookup-walks
+      walk-meets 𝓤 H A lookup.ended stayed W (goes-none-slice 𝓤 H A W 1 (0 ∷ []) tt (plain (λ _. T.the-row)) yes, (goes-none 𝓤 H A W 1 (λ _. usize) yes (λ κs x f. refl), (goes-none 𝓤 H A W 1 (λ _. Y.the-row) yes (λ κs x f. refl), tt))) (lookup.clauses 𝓤 H A mem run) (WpFn 𝓤 H (𝓣 .C) (𝓣 .Λ) code.function) (WpFn-mono 𝓤 H (W .laws) 𝓣 code.function) lookup-walks
 
 pub lookup-spec : {M : Type 1} → stated.statement M
 unfolding code.routine tablesOf

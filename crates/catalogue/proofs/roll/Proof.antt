@@ -129,19 +129,7 @@ record Turn (n : ℕ) (d : Bool) (end ys : List Entry) : Type 0 where
   is : Is T.the-row c (u ∷ [])
 
 abbrev stayed : Stays (roll.ended .signature .params) (roll.ended .kept)
-stayed = (
-  stay-slice (0 ∷ []) tt (plain (λ _. T.the-row)),
-  (
-    stay-none (λ _. usize) yes,
-    (
-      stay-none (λ _. usize) yes,
-      (
-        stay-none (λ _. bool) yes,
-        (stay-none (λ _. T.the-row) yes, tt),
-      ),
-    ),
-  ),
-)
+stayed = (stay-slice (0 ∷ []) tt (plain (λ _. T.the-row)), (stay-none (λ _. usize) yes, (stay-none (λ _. usize) yes, (stay-none (λ _. bool) yes, (stay-none (λ _. T.the-row) yes, tt)))))
 
 module _ {M : Type 1} (𝓤 : URA M) (H : Heap 𝓤) (A : Atoms 𝓤) (mem : Memory → SProp 𝓤) (run : Routine → Fun 𝓤) where
   -- the contract that the proof cites
@@ -176,19 +164,7 @@ module _ {M : Type 1} (𝓤 : URA M) (H : Heap 𝓤) (A : Atoms 𝓤) (W : Given
       → ent 𝓤 (⋆ 𝓤 H A (Obs zs ∷ ‵ (fbor κ (Held T.the-row (length zs) b o γ)) ∷ ‵ (flft κ q) ∷ [])) (Post vunit)
   exits zs same e =
       qed W (Obs zs ∷ ‵ (fbor κ (Held T.the-row (length zs) b o γ)) ∷ ‵ (flft κ q) ∷ []) ∵
-      suffices ! _ (ends-at 𝓤 H A roll.ended stayed (roll.clauses 𝓤 H A mem run) W (((κ, tt), (q, tt), tt, x, at₀), tt) vunit tt (
-        zs,
-        (
-          tt,
-          (
-            tt,
-            (
-              tt,
-              (tt, tt),
-            ),
-          ),
-        ),
-      ) (same, (tt, (tt, (tt, (tt, tt)))))) $
+      suffices ! _ (ends-at 𝓤 H A roll.ended stayed (roll.clauses 𝓤 H A mem run) W (((κ, tt), (q, tt), tt, x, at₀), tt) vunit tt (zs, (tt, (tt, (tt, (tt, tt))))) (same, (tt, (tt, (tt, (tt, tt)))))) $
       says ! e $
       -- what the plain parameters own is made anew
       nothing ! $ owned ! T.the-row (Is T.the-row) (LL.makes T.the-type T′.the-plain 𝓤 H A) c₀ (T′.lowered c₀ ∷ []) is-c $ fjoin ! $
@@ -392,39 +368,14 @@ module _ {M : Type 1} (𝓤 : URA M) (H : Heap 𝓤) (A : Atoms 𝓤) (W : Given
 module _ {M : Type 1} (𝓤 : URA M) (H : Heap 𝓤) (A : Atoms 𝓤) (W : Given 𝓤 H A) (mem : Memory → SProp 𝓤) (run : Routine → Fun 𝓤) (𝓣 : Tables 𝓤 H) (known : Triple 𝓤 (𝓣 .C #entries·moved) (Moved 𝓤 H A mem run)) where
   roll-walks : Walks 𝓤 H A roll.ended stayed (WpFn 𝓤 H (𝓣 .C) (𝓣 .Λ) code.function) (roll.clauses 𝓤 H A mem run)
   roll-walks =
-      walked 𝓤 H A roll.ended stayed (roll.clauses 𝓤 H A mem run) (WpFn 𝓤 H (𝓣 .C) (𝓣 .Λ) code.function) (λ κs. (
-        slice-vals,
-        (
-          uint-vals w64,
-          (uint-vals w64, (bool-vals, (LL.vals T.the-type T′.the-laws, tt))),
-        ),
-      )) (λ κs. (
-        mut-slice-tells (named 0) (κs .0) T.the-row,
-        (
-          uint-tells w64,
-          (uint-tells w64, (bool-tells, (LL.tells T.the-type T′.the-laws, tt))),
-        ),
-      ))
+      walked 𝓤 H A roll.ended stayed (roll.clauses 𝓤 H A mem run) (WpFn 𝓤 H (𝓣 .C) (𝓣 .Λ) code.function) (λ κs. (slice-vals, (uint-vals w64, (uint-vals w64, (bool-vals, (LL.vals T.the-type T′.the-laws, tt)))))) (λ κs. (mut-slice-tells (named 0) (κs .0) T.the-row, (uint-tells w64, (uint-tells w64, (bool-tells, (LL.tells T.the-type T′.the-laws, tt))))))
       (λ κs qs bounds a g are. needs 𝓤 (inside (a .1 .1 .1 .0) (a .1 .0) (a .1 .1 .0) (length (a .0 .now))) _ (λ into.
       walk 𝓤 H A W mem run (κs .0) (qs .0) (a .0 .ptr .0) (a .0 .ptr .1) (a .0 .name) (a .0 .now) (a .1 .0) (a .1 .1 .0) (a .1 .1 .1 .0)
       (a .1 .1 .1 .1 .0) (are .0 .0 .1) (are .1 .0 .1) (are .1 .1 .0 .1) (are .1 .1 .1 .1 .0) into 𝓣 known))
 
   roll-meets : Meets 𝓤 H A roll.signature (WpFn 𝓤 H (𝓣 .C) (𝓣 .Λ) code.function) (roll.spec 𝓤 H A mem run)
   roll-meets =
-      walk-meets 𝓤 H A roll.ended stayed W (
-        goes-slice 𝓤 H A W 1 0 tt (plain (λ _. T.the-row)),
-        (
-          goes-none 𝓤 H A W 1 (λ _. usize) yes
-              (λ κs x f. refl),
-          (
-            goes-none 𝓤 H A W 1 (λ _. usize) yes (λ κs x f. refl),
-            (
-              goes-none 𝓤 H A W 1 (λ _. bool) yes (λ κs x f. refl),
-              (goes-none 𝓤 H A W 1 (λ _. T.the-row) yes (λ κs x f. refl), tt),
-            ),
-          ),
-        ),
-      ) (roll.clauses 𝓤 H A mem run) (WpFn 𝓤 H (𝓣 .C) (𝓣 .Λ) code.function)
+      walk-meets 𝓤 H A roll.ended stayed W (goes-slice 𝓤 H A W 1 0 tt (plain (λ _. T.the-row)), (goes-none 𝓤 H A W 1 (λ _. usize) yes (λ κs x f. refl), (goes-none 𝓤 H A W 1 (λ _. usize) yes (λ κs x f. refl), (goes-none 𝓤 H A W 1 (λ _. bool) yes (λ κs x f. refl), (goes-none 𝓤 H A W 1 (λ _. T.the-row) yes (λ κs x f. refl), tt))))) (roll.clauses 𝓤 H A mem run) (WpFn 𝓤 H (𝓣 .C) (𝓣 .Λ) code.function)
       (WpFn-mono 𝓤 H (W .laws) 𝓣 code.function) roll-walks
 
 pub roll-spec : {M : Type 1} → stated.statement M

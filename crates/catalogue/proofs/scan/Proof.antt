@@ -136,20 +136,7 @@ record Turn (n : ℕ) (k : Look) (ys : List Entry) : Type 0 where
   is : Is K.the-row x (u ∷ [])
 
 abbrev stayed : Stays (scan.ended .signature .params) (scan.ended .kept)
-stayed = (
-  stay-none-slice (0 ∷ []) tt (plain (λ _. T.the-row)) yes,
-  (
-    stay-none (λ _. usize) yes,
-    (
-      stay-none (λ _. Y.the-row) yes,
-      (
-        stay-none
-            (λ _. usize) yes,
-        tt,
-      ),
-    ),
-  ),
-)
+stayed = (stay-none-slice (0 ∷ []) tt (plain (λ _. T.the-row)) yes, (stay-none (λ _. usize) yes, (stay-none (λ _. Y.the-row) yes, (stay-none (λ _. usize) yes, tt))))
 
 module _ {M : Type 1} (𝓤 : URA M) (H : Heap 𝓤) (A : Atoms 𝓤) (mem : Memory → SProp 𝓤) (run : Routine → Fun 𝓤) where
   -- the contracts that the proof cites
@@ -209,28 +196,7 @@ module _ {M : Type 1} (𝓤 : URA M) (H : Heap 𝓤) (A : Atoms 𝓤) (W : Given
       owned ! K.the-row (Is K.the-row) (LL.makes K.the-type K′.the-plain 𝓤 H A) r _ is $ done !
 
   abbrev to-start : Start 𝓤 H A mem run .Ghost
-  to-start = (
-    (
-      tt,
-      tt,
-      tt,
-      (key, (n, (length ys, (room₀, tt)))),
-      (
-        Y′.lowered key ∷ [],
-        (
-          vint w64 n ∷ [],
-          (
-            vint w64 (length ys) ∷ [],
-            (
-              vint w64 room₀ ∷ [],
-              tt,
-            ),
-          ),
-        ),
-      ),
-    ),
-    tt,
-  )
+  to-start = ((tt, tt, tt, (key, (n, (length ys, (room₀, tt)))), (Y′.lowered key ∷ [], (vint w64 n ∷ [], (vint w64 (length ys) ∷ [], (vint w64 room₀ ∷ [], tt))))), tt)
 
   goes-start : ent 𝓤 (sem 𝓤 H A ftrue) (Start 𝓤 H A mem run .pre to-start)
   goes-start =
@@ -425,32 +391,13 @@ module _ {M : Type 1} (𝓤 : URA M) (H : Heap 𝓤) (A : Atoms 𝓤) (W : Given
 module _ {M : Type 1} (𝓤 : URA M) (H : Heap 𝓤) (A : Atoms 𝓤) (W : Given 𝓤 H A) (mem : Memory → SProp 𝓤) (run : Routine → Fun 𝓤) (𝓣 : Tables 𝓤 H) (known-start : Triple 𝓤 (𝓣 .C #entries·start) (Start 𝓤 H A mem run)) (known : Triple 𝓤 (𝓣 .C #entries·step) (Step 𝓤 H A mem run)) where
   scan-walks : Walks 𝓤 H A scan.ended stayed (WpFn 𝓤 H (𝓣 .C) (𝓣 .Λ) code.function) (scan.clauses 𝓤 H A mem run)
   scan-walks =
-      walked 𝓤 H A scan.ended stayed (scan.clauses 𝓤 H A mem run) (WpFn 𝓤 H (𝓣 .C) (𝓣 .Λ) code.function) (λ κs. (
-        slice-vals,
-        (
-          uint-vals w64,
-          (LL.vals Y.the-type Y′.the-laws, (uint-vals w64, tt)),
-        ),
-      )) (λ κs. (
-        shr-slice-tells (named 0) (κs .0) T.the-row,
-        (
-          uint-tells w64,
-          (LL.tells Y.the-type Y′.the-laws, (uint-tells w64, tt)),
-        ),
-      ))
+      walked 𝓤 H A scan.ended stayed (scan.clauses 𝓤 H A mem run) (WpFn 𝓤 H (𝓣 .C) (𝓣 .Λ) code.function) (λ κs. (slice-vals, (uint-vals w64, (LL.vals Y.the-type Y′.the-laws, (uint-vals w64, tt))))) (λ κs. (shr-slice-tells (named 0) (κs .0) T.the-row, (uint-tells w64, (LL.tells Y.the-type Y′.the-laws, (uint-tells w64, tt)))))
       (λ κs qs bounds a g are. via 𝓤 _ (fst∗ 𝓤 _ (emp 𝓤)) (walk 𝓤 H A W mem run (κs .0) (qs .0) (a .0 .ptr .0) (a .0 .ptr .1) (a .0 .name)
       (a .0 .now) (a .1 .0) (a .1 .1 .0) (a .1 .1 .1 .0) (are .0 .0 .1) (are .1 .0 .1) (are .1 .1 .0) (are .1 .1 .1 .0 .1) 𝓣 known-start known))
 
   scan-meets : Meets 𝓤 H A scan.signature (WpFn 𝓤 H (𝓣 .C) (𝓣 .Λ) code.function) (scan.spec 𝓤 H A mem run)
   scan-meets =
-      walk-meets 𝓤 H A scan.ended stayed W (
-        goes-none-slice 𝓤 H A W 1 (0 ∷ []) tt (plain (λ _. T.the-row)) yes,
-        (
-          goes-none 𝓤 H A W 1 (λ _. usize) yes
-              (λ κs x f. refl),
-          (goes-none 𝓤 H A W 1 (λ _. Y.the-row) yes (λ κs x f. refl), (goes-none 𝓤 H A W 1 (λ _. usize) yes (λ κs x f. refl), tt)),
-        ),
-      )
+      walk-meets 𝓤 H A scan.ended stayed W (goes-none-slice 𝓤 H A W 1 (0 ∷ []) tt (plain (λ _. T.the-row)) yes, (goes-none 𝓤 H A W 1 (λ _. usize) yes (λ κs x f. refl), (goes-none 𝓤 H A W 1 (λ _. Y.the-row) yes (λ κs x f. refl), (goes-none 𝓤 H A W 1 (λ _. usize) yes (λ κs x f. refl), tt))))
       (scan.clauses 𝓤 H A mem run) (WpFn 𝓤 H (𝓣 .C) (𝓣 .Λ) code.function) (WpFn-mono 𝓤 H (W .laws) 𝓣 code.function) scan-walks
 
 pub scan-spec : {M : Type 1} → stated.statement M

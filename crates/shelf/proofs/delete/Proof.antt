@@ -172,16 +172,7 @@ module _ {M : Type 1} (𝓤 : URA M) (H : Heap 𝓤) (A : Atoms 𝓤) (W : Given
         (ensured 𝓤 H A delete.ended (delete.clauses 𝓤 H A at-mem run) (ν ∷ [], tt) (s l₄ δ xs, (n, (c, tt))) tt r)))) (id⊢ 𝓤 _) $
         await ! tt $ pick ! (λ r.
         split ! $ move ! (1 ∷ []) $
-        use1 W (some (λ (zs : List Entry × (Unit {0} × (Unit {0} × Unit {0}))). ‵ (lasts delete.ended (ν ∷ [], tt) (
-          s l₄ δ xs,
-          (
-            n,
-            (
-              c,
-              tt,
-            ),
-          ),
-        ) zs) ⊛ raw (fact 𝓤 (Delete c n xs r (zs .0))))) (id⊢ 𝓤 _) $
+        use1 W (some (λ (zs : List Entry × (Unit {0} × (Unit {0} × Unit {0}))). ‵ (lasts delete.ended (ν ∷ [], tt) (s l₄ δ xs, (n, (c, tt))) zs) ⊛ raw (fact 𝓤 (Delete c n xs r (zs .0))))) (id⊢ 𝓤 _) $
         pick ! (λ zs.
         split ! $ move ! (1 ∷ []) $ heard ! (Delete c n xs r (zs .0)) (λ e. fsplit ! $ fsplit ! $ move ! (1 ∷ []) $ feqL ! (λ _.
         move ! (2 ∷ []) $ split ! $ move ! (1 ∷ []) $ peeks ! D.the-row (Is D.the-row) (shows 𝓤 H A D.the-row) r (u ∷ []) (λ is.
@@ -233,15 +224,7 @@ module _ {M : Type 1} (𝓤 : URA M) (H : Heap 𝓤) (A : Atoms 𝓤) (W : Given
 
   shelved-meets : Meets 𝓤 H A shelved.signature (WpFn 𝓤 H (𝓣 .C) (𝓣 .Λ) code.function) (shelved.spec 𝓤 H A mem run)
   shelved-meets =
-      walk-meets 𝓤 H A shelved.ended stayed W (
-        goes-none 𝓤 H A W 0 (λ _. Ar) yes (λ κs x f. refl),
-        (
-          goes-none 𝓤 H A W 0 (λ _. usize) yes
-              (λ κs x f. refl),
-          (goes-none 𝓤 H A W 0 (λ _. T.the-row) yes (λ κs x f. refl), tt),
-        ),
-      ) (shelved.clauses 𝓤 H A mem run) (WpFn 𝓤 H (𝓣 .C)
-      (𝓣 .Λ) code.function) (WpFn-mono 𝓤 H (W .laws) 𝓣 code.function) shelved-walks
+      walk-meets 𝓤 H A shelved.ended stayed W (goes-none 𝓤 H A W 0 (λ _. Ar) yes (λ κs x f. refl), (goes-none 𝓤 H A W 0 (λ _. usize) yes (λ κs x f. refl), (goes-none 𝓤 H A W 0 (λ _. T.the-row) yes (λ κs x f. refl), tt))) (shelved.clauses 𝓤 H A mem run) (WpFn 𝓤 H (𝓣 .C) (𝓣 .Λ) code.function) (WpFn-mono 𝓤 H (W .laws) 𝓣 code.function) shelved-walks
 
 pub delete-spec : {M : Type 1} → stated.statement M
 unfolding code.routine tablesOf

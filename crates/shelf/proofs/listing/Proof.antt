@@ -100,16 +100,7 @@ module _ {M : Type 1} (𝓤 : URA M) (H : Heap 𝓤) (A : Atoms 𝓤) (W : Given
       → ent 𝓤 (⋆ 𝓤 H A (Own₂ zs ∷ ‵ (flft κ q) ∷ [])) (Post u)
   exits d u zs l e is =
       qed W (Own₂ zs ∷ ‵ (flft κ q) ∷ []) ∵
-      suffices ! _ (ends-at 𝓤 H A shelved.ended stayed (shelved.clauses 𝓤 H A at-mem run) W (((κ, tt), (q, tt), tt, x, at), tt) u d (
-        tt,
-        (
-          tt,
-          (
-            tt,
-            (zs, tt),
-          ),
-        ),
-      ) (tt, (tt, (tt, (l, tt))))) $
+      suffices ! _ (ends-at 𝓤 H A shelved.ended stayed (shelved.clauses 𝓤 H A at-mem run) W (((κ, tt), (q, tt), tt, x, at), tt) u d (tt, (tt, (tt, (zs, tt)))) (tt, (tt, (tt, (l, tt))))) $
       says ! e $
       nothing ! $ move ! (2 ∷ 0 ∷ []) $ join ! $ frame ! $
       nothing ! $ move ! (1 ∷ 0 ∷ []) $ fjoin ! $ owned ! Y.the-row (Is Y.the-row) (LL.makes Y.the-type Y′.the-plain 𝓤 H A) k _ is-k $ fjoin ! $
@@ -125,25 +116,7 @@ module _ {M : Type 1} (𝓤 : URA M) (H : Heap 𝓤) (A : Atoms 𝓤) (W : Given
   v b = sliceVal (b, 0) (length xs)
 
   abbrev to : ℕ → ℕ → GName → ℕ → GName → Callee 𝓤 H A at-mem run .Ghost
-  to b ν δ ν₂ δ₂ = (
-    (
-      (ν ∷ [], (ν₂ ∷ [], tt)),
-      (fullShare, (fullShare, tt)),
-      tt,
-      (s b δ, (n, (k, (s₂ δ₂ os, tt)))),
-      (
-        v b ∷ [],
-        (
-          vint w64 n ∷ [],
-          (
-            Y′.lowered k ∷ [],
-            (v₂ ∷ [], tt),
-          ),
-        ),
-      ),
-    ),
-    tt,
-  )
+  to b ν δ ν₂ δ₂ = (((ν ∷ [], (ν₂ ∷ [], tt)), (fullShare, (fullShare, tt)), tt, (s b δ, (n, (k, (s₂ δ₂ os, tt)))), (v b ∷ [], (vint w64 n ∷ [], (Y′.lowered k ∷ [], (v₂ ∷ [], tt))))), tt)
 
   goes : (b ν : ℕ) (δ : GName) (ν₂ : ℕ) (δ₂ : GName)
       → ent 𝓤 (sep 𝓤 (sep 𝓤 (A .lft (ν ∷ []) fullShare) (A .lft (ν₂ ∷ []) fullShare)) (sep 𝓤 (sem 𝓤 H A (ShrSlice (named 0) (ν ∷ []) T.the-row .own
@@ -204,27 +177,12 @@ module _ {M : Type 1} (𝓤 : URA M) (H : Heap 𝓤) (A : Atoms 𝓤) (W : Given
         use1 W (later (some (λ (r : Page). ((‵ (flft (ν ∷ []) fullShare) ⊛ ‵ (flft (ν₂ ∷ []) fullShare) ⊛ ‵ ftrue) ⊛ ‵ (D.the-row .own r
         (u ∷ []))) ⊛ raw (ensured 𝓤 H A listing.ended (listing.clauses 𝓤 H A at-mem run) (ν ∷ [], (ν₂ ∷ [], tt)) (
           s l₅ δ,
-          (
-            n,
-            (
-              k,
-              (
-                s₂ δ₂ os,
-                tt,
-              ),
-            ),
-          ),
+          (n, (k, (s₂ δ₂ os, tt))),
         ) tt r)))) (id⊢ 𝓤 _) $
         await ! tt $ pick ! (λ r.
         -- what the callee ensures, at some last list
         split ! $ move ! (1 ∷ []) $
-        use1 W (some (λ (zs : Unit {0} × (Unit {0} × (Unit {0} × (List ℕ × Unit {0})))). ‵ (lasts listing.ended (ν ∷ [], (ν₂ ∷ [], tt)) (
-          s l₅ δ,
-          (
-            n,
-            (k, (s₂ δ₂ os, tt)),
-          ),
-        ) zs) ⊛ raw (fact 𝓤 (Listing k n xs os r (zs .1 .1 .1 .0))))) (id⊢ 𝓤 _) $
+        use1 W (some (λ (zs : Unit {0} × (Unit {0} × (Unit {0} × (List ℕ × Unit {0})))). ‵ (lasts listing.ended (ν ∷ [], (ν₂ ∷ [], tt)) (s l₅ δ, (n, (k, (s₂ δ₂ os, tt)))) zs) ⊛ raw (fact 𝓤 (Listing k n xs os r (zs .1 .1 .1 .0))))) (id⊢ 𝓤 _) $
         pick ! (λ zs.
         split ! $ move ! (1 ∷ []) $ heard ! (Listing k n xs os r (zs .1 .1 .1 .0)) (λ e. fsplit ! $ drop ! $ fsplit ! $ drop ! $ fsplit ! $ drop ! $
         fsplit ! $ fsplit ! $ move ! (1 ∷ []) $ feqL ! (λ l.
@@ -251,39 +209,14 @@ module _ {M : Type 1} (𝓤 : URA M) (H : Heap 𝓤) (A : Atoms 𝓤) (W : Given
 module _ {M : Type 1} (𝓤 : URA M) (H : Heap 𝓤) (A : Atoms 𝓤) (W : Given 𝓤 H A) (mem : Memory → SProp 𝓤) (run : Routine → Fun 𝓤) (𝓣 : Tables 𝓤 H) (known : Triple 𝓤 (𝓣 .C #catalogue·listing) (Callee 𝓤 H A mem run)) where
   shelved-walks : Walks 𝓤 H A shelved.ended stayed (WpFn 𝓤 H (𝓣 .C) (𝓣 .Λ) code.function) (shelved.clauses 𝓤 H A mem run)
   shelved-walks =
-      walked 𝓤 H A shelved.ended stayed (shelved.clauses 𝓤 H A mem run) (WpFn 𝓤 H (𝓣 .C) (𝓣 .Λ) code.function) (λ κs. (
-        array-vals
-            (LL.vals T.the-type T′.the-laws),
-        (uint-vals w64, (LL.vals Y.the-type Y′.the-laws, (slice-vals, tt))),
-      )) (λ κs. (
-        array-tells T.the-row
-            (LL.vals T.the-type T′.the-laws) (LL.tells T.the-type T′.the-laws) 8,
-        (
-          uint-tells w64,
-          (
-            LL.tells Y.the-type Y′.the-laws,
-            (
-              mut-slice-tells
-                  (named 0) (κs .0) u64,
-              tt,
-            ),
-          ),
-        ),
-      ))
+      walked 𝓤 H A shelved.ended stayed (shelved.clauses 𝓤 H A mem run) (WpFn 𝓤 H (𝓣 .C) (𝓣 .Λ) code.function) (λ κs. (array-vals (LL.vals T.the-type T′.the-laws), (uint-vals w64, (LL.vals Y.the-type Y′.the-laws, (slice-vals, tt))))) (λ κs. (array-tells T.the-row (LL.vals T.the-type T′.the-laws) (LL.tells T.the-type T′.the-laws) 8, (uint-tells w64, (LL.tells Y.the-type Y′.the-laws, (mut-slice-tells (named 0) (κs .0) u64, tt)))))
       (λ κs qs bounds a g are. via 𝓤 _ (fst∗ 𝓤 _ (emp 𝓤)) (walk 𝓤 H A W mem run (κs .0) (qs .0) (a .0) (a .1 .0) (a .1 .1 .0) (a .1 .1 .1 .0 .ptr .0)
       (a .1 .1 .1 .0 .ptr .1) (a .1 .1 .1 .0 .name) (a .1 .1 .1 .0 .now) (are .0) (are .1 .0 .1) (are .1 .1 .0) (are .1 .1 .1 .0 .0 .1) (𝓣 .C) (𝓣 .Λ)
       (fmOf 𝓤 H (W .laws) 𝓣) known))
 
   shelved-meets : Meets 𝓤 H A shelved.signature (WpFn 𝓤 H (𝓣 .C) (𝓣 .Λ) code.function) (shelved.spec 𝓤 H A mem run)
   shelved-meets =
-      walk-meets 𝓤 H A shelved.ended stayed W (
-        goes-none 𝓤 H A W 1 (λ _. Ar) yes (λ κs x f. refl),
-        (
-          goes-none 𝓤 H A W 1 (λ _. usize) yes
-              (λ κs x f. refl),
-          (goes-none 𝓤 H A W 1 (λ _. Y.the-row) yes (λ κs x f. refl), (goes-slice 𝓤 H A W 1 0 tt (plain (λ _. u64)), tt)),
-        ),
-      )
+      walk-meets 𝓤 H A shelved.ended stayed W (goes-none 𝓤 H A W 1 (λ _. Ar) yes (λ κs x f. refl), (goes-none 𝓤 H A W 1 (λ _. usize) yes (λ κs x f. refl), (goes-none 𝓤 H A W 1 (λ _. Y.the-row) yes (λ κs x f. refl), (goes-slice 𝓤 H A W 1 0 tt (plain (λ _. u64)), tt))))
       (shelved.clauses 𝓤 H A mem run) (WpFn 𝓤 H (𝓣 .C) (𝓣 .Λ) code.function) (WpFn-mono 𝓤 H (W .laws) 𝓣 code.function) shelved-walks
 
 pub listing-spec : {M : Type 1} → stated.statement M

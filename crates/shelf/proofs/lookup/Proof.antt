@@ -186,15 +186,7 @@ module _ {M : Type 1} (𝓤 : URA M) (H : Heap 𝓤) (A : Atoms 𝓤) (W : Given
 
   shelved-meets : Meets 𝓤 H A shelved.signature (WpFn 𝓤 H (𝓣 .C) (𝓣 .Λ) code.function) (shelved.spec 𝓤 H A mem run)
   shelved-meets =
-      walk-meets 𝓤 H A shelved.ended stayed W (
-        goes-none 𝓤 H A W 0 (λ _. Ar) yes (λ κs x f. refl),
-        (
-          goes-none 𝓤 H A W 0 (λ _. usize) yes
-              (λ κs x f. refl),
-          (goes-none 𝓤 H A W 0 (λ _. Y.the-row) yes (λ κs x f. refl), tt),
-        ),
-      ) (shelved.clauses 𝓤 H A mem run) (WpFn 𝓤 H (𝓣 .C)
-      (𝓣 .Λ) code.function) (WpFn-mono 𝓤 H (W .laws) 𝓣 code.function) shelved-walks
+      walk-meets 𝓤 H A shelved.ended stayed W (goes-none 𝓤 H A W 0 (λ _. Ar) yes (λ κs x f. refl), (goes-none 𝓤 H A W 0 (λ _. usize) yes (λ κs x f. refl), (goes-none 𝓤 H A W 0 (λ _. Y.the-row) yes (λ κs x f. refl), tt))) (shelved.clauses 𝓤 H A mem run) (WpFn 𝓤 H (𝓣 .C) (𝓣 .Λ) code.function) (WpFn-mono 𝓤 H (W .laws) 𝓣 code.function) shelved-walks
 
 pub lookup-spec : {M : Type 1} → stated.statement M
 unfolding code.routine tablesOf
