@@ -3,6 +3,7 @@ pub mod Tabulate
 pub mod Count
 pub mod Search
 pub mod Those
+pub mod Passing
 pub mod Digits
 pub mod Refusal
 pub mod Span

@@ -7,4 +7,6 @@ pub mod Demand3
 pub mod Independence
 pub mod Refusals
 pub mod Tight
+pub mod Catalogue
+pub mod HexLine
 pub mod Examples

@@ -82,7 +82,7 @@ pub fn checksum(bytes: &[u8]) -> u64 {
     c
 }
 
-fn wide_byte(x: u8) -> u64
+pub fn wide_byte(x: u8) -> u64
     ensures { λ r. ⌜ r < 256 ⌝ }
 {
     x as u64

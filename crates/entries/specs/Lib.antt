@@ -1,0 +1,17 @@
+pub mod Blank
+pub mod Key
+pub mod Catalogue
+pub mod Promise
+pub mod Look
+pub mod Plans
+pub mod Roll
+pub mod Listed
+pub mod Orders
+pub mod Looks
+pub mod Splits
+pub mod Rolls
+pub mod Changes
+pub mod Listings
+pub mod Laws
+pub mod Pages
+pub mod Slots

@@ -1,0 +1,15 @@
+-- The cobs of a run of records, one after the other.
+use Prim.Native.Nat.{ℕ, zero, suc, _+_}
+use mathlib.Core.List.{List, _++_}
+use lib.ListN.{getD, set, drop, replicate}
+use Rattle.entries.specs.declared.Entry.{Entry}
+use Rattle.entries.specs.Blank.{blank}
+
+-- out, with the cobs of m records of ys from f on in its first m places
+unfoldable pub listed : ℕ → ℕ → List Entry → List ℕ → List ℕ
+listed zero f ys out = out
+listed (suc m) f ys out = set (listed m f ys out) m (getD ys (f + m) blank .cob)
+
+-- out, with zeros in its first m places
+abbrev pub wiped : ℕ → List ℕ → List ℕ
+wiped m out = replicate m 0 ++ drop m out

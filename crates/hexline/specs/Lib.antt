@@ -1,0 +1,5 @@
+pub mod Hex
+pub mod HexLine
+pub mod HexChars
+pub mod HexCall
+pub mod HexLaws
