@@ -65,14 +65,7 @@ pub fn fail_refusal(y: Layout, r: Record, len: usize, target: u64) -> u64
 }
 
 // A look at one content of a group, with a scratch of `room` bytes.
-pub fn look_refusal(
-    y: Layout,
-    r: Record,
-    len: usize,
-    room: usize,
-    group: u64,
-    content: u64,
-) -> u64
+pub fn look_refusal(y: Layout, r: Record, len: usize, room: usize, group: u64, content: u64) -> u64
     ensures { λ n. ⌜ n ≡ lookRefusal y r len room group content ⌝ }
 {
     let refusal = pool_refusal(y, r, len);

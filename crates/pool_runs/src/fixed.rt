@@ -25,13 +25,7 @@ fn read(run: Run, image: &[u8], buffer: &mut [u8], offset: u64, length: u64) {
 }
 
 fn look(run: Run, image: &[u8], buffer: &mut [u8], group: u64, content: u64) {
-    calls::look(
-        run,
-        image,
-        group,
-        content,
-        calls::front(buffer, run.y.u),
-    );
+    calls::look(run, image, group, content, calls::front(buffer, run.y.u));
     calls::pool(run, image);
 }
 

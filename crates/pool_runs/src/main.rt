@@ -89,12 +89,7 @@ fn events(start: Run, image: &mut [u8], buffer: &mut [u8], seed: &mut u64) {
         run = event(run, image, buffer, seed);
         calls::pool(run, image);
     }
-    calls::read(
-        run,
-        image,
-        0,
-        calls::front(buffer, run.numbers.capacity),
-    );
+    calls::read(run, image, 0, calls::front(buffer, run.numbers.capacity));
     calls::pool(run, image);
 }
 

@@ -1,2 +1,3 @@
-pub mod Surveyed
 pub mod Starts
+pub mod Surveyed
+pub mod Steps

@@ -23,6 +23,8 @@ use Rattle.pool.specs.Contents.{stored, contentByte}
 use Rattle.plan.specs.declared.Plan.{Plan}
 use Rattle.plan.specs.Plans.{atOf, missOf, Right, Fits, Apart, column, held}
 use Rattle.plan.specs.Same.{missing-same}
+use Rattle.tile.specs.Permutation.{permutationOf}
+use Rattle.survey.specs.declared.Survey.{Survey}
 
 pub record Surveyed (y : Layout) (R : Record) (j g : ℕ) (P : Plan) : Type 0 where
   pub n-is : P .n ≡ y .n
@@ -31,6 +33,14 @@ pub record Surveyed (y : Layout) (R : Record) (j g : ℕ) (P : Plan) : Type 0 wh
   pub at-is : (c : ℕ) → c < contents y → atOf P c ≡ spot y g (home y R j g c) 0
   pub flags-are : (c : ℕ) → c < contents y → missOf P c ≡ missing y R g c
   pub right : Right P
+
+-- while one group after another is looked at: the permutation in hand is that of its tile, and the plan's numbers are the layout's
+pub record Surveying (y : Layout) (w : Survey) : Type 0 where
+  pub to-is : w .to ≡ permutationOf (y .p) (y .cookie) (w .tile)
+  pub n-is : w .plan .n ≡ y .n
+  pub k-is : w .plan .k ≡ y .k
+  pub u-is : w .plan .u ≡ y .u
+  pub right : Right (w .plan)
 
 -- the bytes of a unit follow each other
 pub spot-plus : (y : Layout) (g u o : ℕ) → spot y g u 0 + o ≡ spot y g u o

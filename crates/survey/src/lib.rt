@@ -1,12 +1,22 @@
-// The plan of one group of a pool under a failure record.
+// The plan of one group of a pool after another, under a failure record: the permutation is worked
+// out once a tile, homes and missing contents once a group, and the rows of coefficients only
+// where another set of contents is missing than in the group before.
+use homes::Record;
 use numbers::Layout;
 use numbers::Shape;
+use plan::Plan;
 ghost use mathlib.Core.Path.{_≡_};
-ghost use Prim.Native.Nat.{ℕ, _<_};
+ghost use Prim.Native.Nat.{ℕ, _≤_, _<_};
 ghost use lib.ListN.{getD};
-ghost use Rattle.numbers.specs.Layouts.{contents};
+ghost use Rattle.numbers.specs.Layouts.{Valid, contents, allGroups};
+ghost use Rattle.numbers.specs.Answers.{Shaped};
+ghost use Rattle.tile.specs.Permutation.{permutationOf};
 ghost use Rattle.place.specs.Bytes.{spot};
-ghost use Rattle.survey.specs.Starts.{Housed};
+ghost use Rattle.homes.specs.Missing.{home};
+ghost use Rattle.homes.specs.Standing.{InTile};
+ghost use Rattle.homes.specs.Records.{Good};
+ghost use Rattle.survey.specs.Starts.{Housed, StartsUnder, Stands};
+ghost use Rattle.survey.specs.Surveyed.{Surveyed, Surveying};
 
 // Where the units of a group that are its contents' homes begin in the image.
 fn home_starts(y: Layout, s: Shape, to: &[u8; 64], g: u64, homes: [usize; 19]) -> [usize; 19]
@@ -24,4 +34,93 @@ fn home_starts(y: Layout, s: Shape, to: &[u8; 64], g: u64, homes: [usize; 19]) -
         c += 1;
     }
     at
+}
+
+// Where a group's contents begin, and which of them are missing.
+pub struct Stand {
+    pub at: [usize; 19],
+    pub missing: [bool; 19],
+}
+
+fn stand_of(y: Layout, s: Shape, r: Record, to: &[u8; 64], g: u64) -> Stand
+    requires { ⌜ Good y r × InTile y s (now to) g ⌝ }
+    ensures { λ x. ⌜ Stands y r g x ⌝ }
+{
+    let n = y.n;
+    let spares = y.k as usize;
+    let m = (n + y.k) as usize;
+    let failed = r.failed;
+    let k = r.k as usize;
+    let q = r.q as usize;
+    let targets = homes::targets_of(y, s, to, g);
+    let homes = homes::homes_of(targets, m, spares, failed, q);
+    let missing = homes::missing_of(targets, homes, m, spares, failed, k);
+    let at = home_starts(y, s, to, g, homes);
+    Stand { at, missing }
+}
+
+// Where a group's contents begin once the whole list is repaired.
+fn new_starts(y: Layout, s: Shape, r: Record, to: &[u8; 64], g: u64) -> [usize; 19]
+    requires { ⌜ Good y r × InTile y s (now to) g ⌝ }
+    ensures { λ x. ⌜ StartsUnder y r (r .k) g x ⌝ }
+{
+    let n = y.n;
+    let spares = y.k as usize;
+    let m = (n + y.k) as usize;
+    let failed = r.failed;
+    let k = r.k as usize;
+    let targets = homes::targets_of(y, s, to, g);
+    let homes = homes::homes_of(targets, m, spares, failed, k);
+    home_starts(y, s, to, g, homes)
+}
+
+// The tile whose permutation is in hand, and the plan of the group last looked at.
+pub struct Survey {
+    pub tile: u64,
+    pub to: [u8; 64],
+    pub plan: Plan,
+}
+
+// Before the first group, which is g: its tile's permutation, and a plan for a group that misses nothing.
+pub fn begin(y: Layout, s: Shape, g: u64) -> Survey
+    requires { ⌜ Valid y × Shaped y s ⌝ }
+    ensures { λ w. ⌜ Surveying y w ⌝ }
+{
+    let tile = g / s.c;
+    let to = tile::permutation(y.p, y.cookie, tile);
+    let plan = plan::plan_of(
+        y.n as usize,
+        y.k as usize,
+        y.u as usize,
+        [0usize; 19],
+        [false; 19],
+    );
+    Survey { tile, to, plan }
+}
+
+// The permutation of a tile: the one in hand, or another.
+fn tile_to(y: Layout, last: u64, to: [u8; 64], tile: u64) -> [u8; 64]
+    requires { ⌜ Valid y × (to ≡ permutationOf (y .p) (y .cookie) last) ⌝ }
+    ensures { λ r. ⌜ r ≡ permutationOf (y .p) (y .cookie) tile ⌝ }
+{
+    if last == tile {
+        return to;
+    }
+    tile::permutation(y.p, y.cookie, tile)
+}
+
+// The plan of group g.
+pub fn next(last: Survey, y: Layout, s: Shape, r: Record, g: u64) -> Survey
+    requires { ⌜ Surveying y last × Valid y × Shaped y s × Good y r × (g < allGroups y) ⌝ }
+    ensures { λ w. ⌜ Surveying y w × Surveyed y r (r .q) g (w .plan) ⌝ }
+{
+    let tile = g / s.c;
+    let before = last.to;
+    let to = tile_to(y, last.tile, before, tile);
+    let stand = stand_of(y, s, r, &to, g);
+    let at = stand.at;
+    let missing = stand.missing;
+    let old = last.plan;
+    let plan = plan::plan_next(old, at, missing);
+    Survey { tile, to, plan }
 }
