@@ -150,10 +150,6 @@ byte-assoc a b c ha hb hc =
     (λ x y. ap (mul (2 ^ i)) (mul-xor (2 ^ j) x y) ∙ mul-xor (2 ^ i) (mul (2 ^ j) x) (mul (2 ^ j) y)) 8
     (assoc-basis i hi j hj) c hc) b hb) a ha
 
--- a product's eight low digits are itself
-mul-byte : (a b : ℕ) → mul a b % 256 ≡ mul a b
-mul-byte a b = mod-eq-of-lt (mul-lt a b)
-
 low-l : (a b : ℕ) → mul (a % 256) b ≡ mul a b
 low-l a b = mul-low (a % 256) b ∙ ap (λ (x : ℕ). mul x (b % 256)) (mod-mod a 256) ∙ sym (mul-low a b)
 

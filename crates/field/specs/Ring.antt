@@ -4,7 +4,7 @@ use mathlib.Core.Path.{_≡_, refl}
 use Prim.Native.Nat.{ℕ, _<_}
 use lib.Bits.{xor-comm, xor-self, xor-zero-r, xor-lt}
 use Rattle.field.specs.Byte.{_⊕_, mul}
-use Rattle.field.specs.Xor.{xor-assoc, xor-left-comm, xor-cancel, xor-zero-eq}
+use Rattle.field.specs.Xor.{xor-assoc, xor-left-comm, xor-cancel}
 use Rattle.field.specs.Laws.{mul-comm, mul-assoc, mul-left-comm, mul-xor, xor-mul, mul-zero, zero-mul}
 
 pub ⊕-comm : (a b : ℕ) → a ⊕ b ≡ b ⊕ a
@@ -46,10 +46,5 @@ mul-⊕ a b c = mul-xor a b c
 pub ⊕-mul : (a b c : ℕ) → mul (a ⊕ b) c ≡ mul a c ⊕ mul b c
 unfolding _⊕_
 ⊕-mul a b c = xor-mul a b c
-
--- two that sum to 0 are equal
-pub ⊕-eq : (a b : ℕ) → a ⊕ b ≡ 0 → a ≡ b
-unfolding _⊕_
-⊕-eq a b e = xor-zero-eq a b e
 
 pub ruleset ring = (⊕-comm, ⊕-assoc, ⊕-left-comm, ⊕-self, ⊕-cancel, ⊕-zero, zero-⊕, mul-comm, mul-assoc, mul-left-comm, mul-⊕, ⊕-mul, mul-zero, zero-mul)

@@ -56,9 +56,3 @@ xor-left-comm a b c = sym (xor-assoc a b c) ∙ ap (λ (x : ℕ). bitXor x c) (x
 -- x + x = 0, so a term moves to the other side of an equation as it is
 pub xor-cancel : (a b : ℕ) → bitXor a (bitXor a b) ≡ b
 xor-cancel a b = sym (xor-assoc a a b) ∙ ap (λ (x : ℕ). bitXor x b) (xor-self a)
-
-pub xor-left-inj : (a b c : ℕ) → bitXor a b ≡ bitXor a c → b ≡ c
-xor-left-inj a b c e = sym (xor-cancel a b) ∙ ap (bitXor a) e ∙ xor-cancel a c
-
-pub xor-zero-eq : (a b : ℕ) → bitXor a b ≡ 0 → a ≡ b
-xor-zero-eq a b e = sym (xor-left-inj a b a (e ∙ sym (xor-self a)))

@@ -66,23 +66,9 @@ fn double_from(acc: &mut [u8; 128], on: bool, m: usize)
     }
 }
 
-// The sum, 128 bytes from o on, of the runs that the plan names: digit after digit, highest first.
-fn block(src: &[u8], list: &[usize; 128], counts: &[usize; 8], top: usize, o: usize) -> [u8; 128]
-    requires { ⌜ (top ≤ 8) × ((k : ℕ) → k < top → Reach (now list) (k * 16) (getD (now counts) k 0) (o + 128) (length (now src))) ⌝ }
-    ensures { λ r. ⌜ Filled (λ i. planned (now (src .entry)) (now (list .entry)) (now (counts .entry)) top (o + i)) 128 r ⌝ }
-{
-    let mut acc = [0u8; 128];
-    let mut k = top;
-    while 0 < k {
-        double_from(&mut acc, k < top, 128);
-        k -= 1;
-        add_plane(&mut acc, src, list, k * 16, counts[k], o, 128);
-    }
-    acc
-}
-
-// The same, of m bytes.
-fn part(
+// The sum, m bytes from o on, of the runs that the plan names: digit after digit, highest first. A whole block has the literal 128 for m, and its
+// loops become vectors once they are inlined.
+fn block(
     src: &[u8],
     list: &[usize; 128],
     counts: &[usize; 8],
@@ -251,7 +237,7 @@ fn add_rest(
 {
     let m = len - o;
     if 0 < m {
-        let b = part(src, list, counts, top, o, m);
+        let b = block(src, list, counts, top, o, m);
         add_block(out, &b, to + o, m);
     }
 }
@@ -277,7 +263,7 @@ pub fn combine(
     let counts = plan(&mut list, starts, coefs, n, top);
     let mut o = 0;
     while 128 <= len - o {
-        let b = block(src, &list, &counts, top, o);
+        let b = block(src, &list, &counts, top, o, 128);
         add_block(out, &b, to + o, 128);
         o += 128;
     }
@@ -299,7 +285,7 @@ fn put_rest(
 {
     let m = len - o;
     if 0 < m {
-        let b = part(buf, list, counts, top, o, m);
+        let b = block(buf, list, counts, top, o, m);
         put_block(buf, &b, at + o, m);
     }
 }
@@ -321,7 +307,7 @@ pub fn combine_in(
     let counts = plan(&mut list, starts, coefs, n, top);
     let mut o = 0;
     while 128 <= len - o {
-        let b = block(buf, &list, &counts, top, o);
+        let b = block(buf, &list, &counts, top, o, 128);
         put_block(buf, &b, at + o, 128);
         o += 128;
     }

@@ -47,7 +47,3 @@ module _ (n k : ℕ) (miss : ℕ → Bool) (s : Solvable n k miss) where
       ∙ sum-cong n _ _ (λ j l. ap (mul (rowOf n k miss u j)) (e (slot n k miss j) (slot-there j l .1) (slot-there j l .0)))
       ∙ sym (row-gives n k miss (lost-most n k miss s) b u t))
       (λ (t : miss u ≡ false). rebuilt-there a u t ∙ e u h t ∙ sym (rebuilt-there b u t)) (either-way (miss u))
-
-  -- so rebuilding what was rebuilt changes nothing
-  pub rebuilt-twice : (old : ℕ → ℕ) (u : ℕ) → u < n + k → rebuilt n k miss (rebuilt n k miss old) u ≡ rebuilt n k miss old u
-  rebuilt-twice old = rebuilt-cong (rebuilt n k miss old) old (λ u h t. rebuilt-there old u t)

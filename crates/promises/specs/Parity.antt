@@ -46,7 +46,10 @@ pub record Field : Type 0 where
   pub mul-sum : (a b c : ℕ) → mul a (b ⊕ c) ≡ mul a b ⊕ mul a c
   pub one : (a : ℕ) → Byte a → mul a 1 ≡ a
   pub none : (a : ℕ) → mul a 0 ≡ 0
-  pub closed : (a b : ℕ) → Byte (mul a b)
+  pub sum-byte : (a b : ℕ) → Byte a → Byte b → Byte (a ⊕ b)
+  pub mul-byte : (a b : ℕ) → Byte (mul a b)
+  pub inverse-byte : (a : ℕ) → Byte (inv a)
+  pub quotient-byte : (a b : ℕ) → Byte (div a b)
   pub inverse : (a : ℕ) → Byte a → 0 < a → mul a (inv a) ≡ 1
   pub no-divisors-of-zero : (a b : ℕ) → Byte a → Byte b → 0 < a → mul a b ≡ 0 → b ≡ 0
   pub quotient : (a b : ℕ) → Byte a → Byte b → 0 < b → mul (div a b) b ≡ a
@@ -63,7 +66,10 @@ field-laws =
       mul-sum = R.mul-⊕;
       one = F.mul-one;
       none = F.mul-zero;
-      closed = F.mul-lt;
+      sum-byte = R.⊕-lt;
+      mul-byte = F.mul-lt;
+      inverse-byte = F.inv-lt;
+      quotient-byte = F.div-lt;
       inverse = F.mul-inv;
       no-divisors-of-zero = F.no-zero-divisors;
       quotient = F.div-mul;

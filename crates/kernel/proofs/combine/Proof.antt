@@ -41,6 +41,7 @@ block-requires c κs =
     let a = c .before .before .before .before .before .before .before .before .before .before .args in
     let p = c .before .before .before .before .plan in
     let t = c .before .before .before .before .before .before .before .top-of in (
+      le-refl 128,
       t .ensures .0,
       λ k h. reach-to (reach (a .n) (a .coefs .now) (a .starts .now) (a .src .now) (p .last .0) (p .result) (t .result) (p .ensures) (a .len) (length (a .src .now)) (c .before .before .before .before .before .before .before .before .before .before .pre .0) (t .ensures .0) (c .before .before .before .before .before .before .before .before .before .before .pre .2) k h) (omega arith),
     )

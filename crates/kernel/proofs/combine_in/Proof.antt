@@ -38,6 +38,7 @@ block-requires c κs =
     let n = l .inv .2 .len in
     let p = c .before .before .before .before .before .plan in
     let t = c .before .before .before .before .before .before .before .top-of in (
+      le-refl 128,
       t .ensures .0,
       λ k h. reach-to (reach (a .n) (a .coefs .now) (a .starts .now) (l .buf) (p .last .0) (p .result) (t .result) (p .ensures) (a .len) (length (l .buf)) (c .before .before .before .before .before .before .before .before .before .pre .0) (t .ensures .0)
           (λ j m. let w = c .before .before .before .before .before .before .before .before .before .pre .2 j m .inside in omega arith) k h) (omega arith),
