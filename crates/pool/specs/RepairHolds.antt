@@ -19,8 +19,7 @@ use Rattle.homes.specs.Missing.{home, missing}
 use Rattle.homes.specs.MissingLaws.{home-alive, home-stays}
 use Rattle.pool.specs.Contents.{stored, contentByte}
 use Rattle.pool.specs.Refusals.{repairRefusal}
-use Rattle.pool.specs.Storing.{storing}
-use Rattle.pool.specs.Repairing.{mends, repairImage, mended, repairRecord}
+use Rattle.pool.specs.Repairing.{mendedImage, repairImage, mended, repairRecord}
 use Rattle.pool.specs.Asked.{Sound, repair-asked}
 use Rattle.pool.specs.StoringLaws.{storing-at, storing-length}
 use Rattle.pool.specs.Holds.{Holds, content-holds}
@@ -38,7 +37,7 @@ module _ (y : Layout) (R : Record) where
   repair-refused img z = grant-no (repairRefusal y R (length img)) _ img z
 
   -- an accepted one stores
-  pub repair-accepted : (img : List ℕ) → repairRefusal y R (length img) ≡ 0 → repairImage y R img ≡ storing y R (R .k) (mends y R) (contentByte y R img) img
+  pub repair-accepted : (img : List ℕ) → repairRefusal y R (length img) ≡ 0 → repairImage y R img ≡ mendedImage y R img
   unfolding repairImage
   repair-accepted img z = grant-yes (repairRefusal y R (length img)) _ img z
 

@@ -18,8 +18,12 @@ use Rattle.pool.specs.Storing.{storing}
 abbrev pub mends : Layout → Record → ℕ → ℕ → ℕ → Bool
 mends y R g o c = missing y R g c
 
+-- ".. at its home under the whole list"
+abbrev pub mendedImage : Layout → Record → List ℕ → List ℕ
+mendedImage y R img = storing y R (R .k) (mends y R) (contentByte y R img) img
+
 unfoldable pub repairImage : Layout → Record → List ℕ → List ℕ
-repairImage y R img = grant (repairRefusal y R (length img)) (storing y R (R .k) (mends y R) (contentByte y R img) img) img
+repairImage y R img = grant (repairRefusal y R (length img)) (mendedImage y R img) img
 
 -- "sets q = k"
 abbrev pub mended : Record → Record
