@@ -44,7 +44,7 @@ module _ (y : Layout) (R : Record) where
   pub repair-length : (img : List ℕ) → length (repairImage y R img) ≡ length img
   repair-length img =
       equal-or-not (repairRefusal y R (length img)) 0
-      (λ z. ap length (repair-accepted img z) ∙ storing-length y R (R .k) _ _ img)
+      (λ z. ap length (repair-accepted img z) ∙ storing-length y R _ _ _ img)
       (λ z. ap length (repair-refused img z))
 
   -- what stands at a content's home under the whole list after a repair
