@@ -138,12 +138,12 @@ fn free_spare(
     requires { ⌜ (m ≤ 19) × (m + spares ≤ 22) × (j ≤ 3) ⌝ }
     ensures { λ r. ⌜ (r ≡ lowest (free (at targets) m (at failed) j (at homes)) spares) × (r ≤ spares) ⌝ }
 {
-    let mut i: usize = 0;
-    while i < spares {
-        if is_free(targets, homes, m, failed, j, i) {
-            return i;
+    let mut spare: usize = 0;
+    while spare < spares {
+        if is_free(targets, homes, m, failed, j, spare) {
+            return spare;
         }
-        i += 1;
+        spare += 1;
     }
     spares
 }
@@ -166,13 +166,13 @@ fn moved(
     requires { ⌜ Units targets homes m spares × (j < 3) ⌝ }
     ensures { λ r. ⌜ ((c : ℕ) → c < m → at r c ≡ move (at targets) m spares (at failed) j (at homes) c) ⌝ }
 {
-    let spare = m + free_spare(targets, homes, m, spares, failed, j + 1);
+    let to = m + free_spare(targets, homes, m, spares, failed, j + 1);
     let gone = failed[j];
     let mut after = [0usize; 19];
     let mut c: usize = 0;
     while c < m {
         let home = homes[c];
-        after[c] = chosen(wide(targets[home]) == gone, spare, home);
+        after[c] = chosen(wide(targets[home]) == gone, to, home);
         c += 1;
     }
     after

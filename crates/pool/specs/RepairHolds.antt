@@ -3,13 +3,13 @@
 use mathlib.Core.Path.{_≡_, sym, ap, _∙_, subst}
 use mathlib.Core.Logic.{⊎-elim}
 use mathlib.Core.Bool.{true, false}
-use mathlib.Core.List.{List}
+use mathlib.Core.List.{List, []}
 use Prim.Native.Nat.{ℕ, _<_}
 use native.Mathlib.Nat.{le-refl}
 use lib.ListN.{length}
 use Rattle.lists.specs.Pick.{pick, pick-true, pick-false, either-way, equal-or-not}
 use Rattle.lists.specs.Tabulate.{at}
-use Rattle.lists.specs.Refusal.{grant-yes, grant-no, grant-either}
+use Rattle.lists.specs.Refusal.{refusalBy, grant-yes, grant-no, grant-either}
 use Rattle.numbers.specs.declared.Layout.{Layout}
 use Rattle.numbers.specs.Layouts.{Valid, allGroups, contents}
 use Rattle.place.specs.Bytes.{spot}
@@ -19,9 +19,8 @@ use Rattle.homes.specs.Missing.{home, missing}
 use Rattle.homes.specs.MissingLaws.{home-alive, home-stays}
 use Rattle.pool.specs.Contents.{stored, contentByte}
 use Rattle.pool.specs.Refusals.{repairRefusal}
-use Rattle.pool.specs.Storing.{storing}
-use Rattle.pool.specs.Repairing.{mends, repairImage, mended, repairRecord}
-use Rattle.pool.specs.Asked.{Sound, repair-asked}
+use Rattle.pool.specs.Repairing.{mendedImage, repairImage, mended, repairRecord}
+use Rattle.pool.specs.Asked.{Sound, sound-passes, repair-asked}
 use Rattle.pool.specs.StoringLaws.{storing-at, storing-length}
 use Rattle.pool.specs.Holds.{Holds, content-holds}
 use Rattle.pool.specs.FailHolds.{Kept}
@@ -38,14 +37,14 @@ module _ (y : Layout) (R : Record) where
   repair-refused img z = grant-no (repairRefusal y R (length img)) _ img z
 
   -- an accepted one stores
-  pub repair-accepted : (img : List ℕ) → repairRefusal y R (length img) ≡ 0 → repairImage y R img ≡ storing y R (R .k) (mends y R) (contentByte y R img) img
+  pub repair-accepted : (img : List ℕ) → repairRefusal y R (length img) ≡ 0 → repairImage y R img ≡ mendedImage y R img
   unfolding repairImage
   repair-accepted img z = grant-yes (repairRefusal y R (length img)) _ img z
 
   pub repair-length : (img : List ℕ) → length (repairImage y R img) ≡ length img
   repair-length img =
       equal-or-not (repairRefusal y R (length img)) 0
-      (λ z. ap length (repair-accepted img z) ∙ storing-length y R (R .k) _ _ img)
+      (λ z. ap length (repair-accepted img z) ∙ storing-length y R _ _ _ img)
       (λ z. ap length (repair-refused img z))
 
   -- what stands at a content's home under the whole list after a repair
@@ -90,3 +89,10 @@ module _ (y : Layout) (R : Record) where
       grant-either (repairRefusal y R len) (mended R) R (λ (S : Record). Kept y S)
       (λ z. record { room = r .room; good = record { few = r .good .few; mended = le-refl (R .k); below = r .good .below; once = r .good .once } })
       (λ z. r)
+
+  -- a sound pool's repair is accepted, and then no content is missing
+  pub all-repaired : (len : ℕ) → Sound y R len → (g c : ℕ) → c < contents y → missing y (repairRecord y R len) g c ≡ false
+  unfolding repairRecord repairRefusal refusalBy
+  all-repaired len s g c h =
+      ap (λ (S : Record). missing y S g c) (grant-yes (repairRefusal y R len) (mended R) R (sound-passes y R len s []))
+      ∙ none-missing (s .valid) (s .good) g c h

@@ -14,16 +14,20 @@ use Rattle.pool.specs.Contents.{contentByte}
 use Rattle.pool.specs.Refusals.{repairRefusal}
 use Rattle.pool.specs.Storing.{storing}
 
+-- "sets q = k"
+abbrev pub mended : Record → Record
+mended R = record { failed = R .failed; k = R .k; q = R .k }
+
 -- "stores every missing content": each of its U bytes
 abbrev pub mends : Layout → Record → ℕ → ℕ → ℕ → Bool
 mends y R g o c = missing y R g c
 
-unfoldable pub repairImage : Layout → Record → List ℕ → List ℕ
-repairImage y R img = grant (repairRefusal y R (length img)) (storing y R (R .k) (mends y R) (contentByte y R img) img) img
+-- ".. at its home under the whole list"
+abbrev pub mendedImage : Layout → Record → List ℕ → List ℕ
+mendedImage y R img = storing y R (R .k) (mends y R) (contentByte y R img) img
 
--- "sets q = k"
-abbrev pub mended : Record → Record
-mended R = record { failed = R .failed; k = R .k; q = R .k }
+unfoldable pub repairImage : Layout → Record → List ℕ → List ℕ
+repairImage y R img = grant (repairRefusal y R (length img)) (mendedImage y R img) img
 
 unfoldable pub repairRecord : Layout → Record → ℕ → Record
 repairRecord y R len = grant (repairRefusal y R len) (mended R) R

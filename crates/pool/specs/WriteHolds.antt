@@ -23,8 +23,7 @@ use Rattle.homes.specs.declared.Record.{Record}
 use Rattle.homes.specs.Missing.{missing}
 use Rattle.pool.specs.Contents.{homeSpot, stored}
 use Rattle.pool.specs.Refusals.{rangeRefusal}
-use Rattle.pool.specs.Storing.{storing}
-use Rattle.pool.specs.Writing.{named, touched, writes, laid, writesPresent, writeImage}
+use Rattle.pool.specs.Writing.{named, touched, writes, laid, writtenImage, writeImage}
 use Rattle.pool.specs.Files.{written, encoded}
 use Rattle.pool.specs.Asked.{Sound, range-asked}
 use Rattle.pool.specs.StoringLaws.{storing-at, storing-length}
@@ -38,8 +37,7 @@ write-refused y R img offset bytes z = grant-no (rangeRefusal y R (length img) o
 
 -- an accepted one stores
 pub write-accepted : (y : Layout) (R : Record) (img : List ℕ) (offset : ℕ) (bytes : List ℕ) → rangeRefusal y R (length img) offset (length bytes) ≡ 0
-    → writeImage y R img offset bytes
-    ≡ storing y R (R .q) (writesPresent y R offset (length bytes)) (λ g o c. content (y .n) (laid y R img offset bytes g o) c) img
+    → writeImage y R img offset bytes ≡ writtenImage y R img offset bytes
 unfolding writeImage
 write-accepted y R img offset bytes z = grant-yes (rangeRefusal y R (length img) offset (length bytes)) _ img z
 

@@ -39,8 +39,11 @@ laid y R img offset bytes g o c = pick (named y offset (length bytes) g o c) (at
 abbrev pub writesPresent : Layout → Record → ℕ → ℕ → ℕ → ℕ → ℕ → Bool
 writesPresent y R offset size g o c = both (not (missing y R g c)) (writes y offset size g o c)
 
+-- "stores the named data bytes and all K parity bytes worked out from those N"
+abbrev pub writtenImage : Layout → Record → List ℕ → ℕ → List ℕ → List ℕ
+writtenImage y R img offset bytes =
+    storing y R (R .q) (writesPresent y R offset (length bytes)) (λ g o c. content (y .n) (laid y R img offset bytes g o) c) img
+
 -- the image afterwards; "any other refused call changes no byte"
 unfoldable pub writeImage : Layout → Record → List ℕ → ℕ → List ℕ → List ℕ
-writeImage y R img offset bytes =
-    grant (rangeRefusal y R (length img) offset (length bytes))
-    (storing y R (R .q) (writesPresent y R offset (length bytes)) (λ g o c. content (y .n) (laid y R img offset bytes g o) c) img) img
+writeImage y R img offset bytes = grant (rangeRefusal y R (length img) offset (length bytes)) (writtenImage y R img offset bytes) img

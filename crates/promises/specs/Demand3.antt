@@ -16,11 +16,12 @@ use Rattle.pool.specs.Contents.{stored}
 use Rattle.pool.specs.Refusals.{poolTests, rangeRefusal, lookRefusal}
 use Rattle.pool.specs.Reading.{readOut}
 use Rattle.pool.specs.Writing.{writeImage}
-use Rattle.pool.specs.Repairing.{repairImage}
+use Rattle.pool.specs.Repairing.{repairImage, repairRecord}
 use Rattle.pool.specs.Looking.{lookScratch, lookShown}
 use Rattle.pool.specs.Files.{part, encoded}
 use Rattle.pool.specs.Asked.{sound-passes}
 use Rattle.pool.specs.Holds.{read-right}
+use Rattle.pool.specs.RepairHolds.{all-repaired}
 use Rattle.pool.specs.LookHolds.{look-right}
 use Rattle.pool.specs.Changes.{Written, Mended, write-changes, repair-changes}
 use Rattle.promises.specs.Runs.{Event, State, start, run, laidOn}
@@ -41,6 +42,8 @@ pub record Right (y : Layout) (s : State) : Type 0 where
       → (at (writeImage y (s .rec) (s .img) offset bytes) x ≡ at (s .img) x) ⊎ Written y (s .rec) offset (length bytes) x
   -- "a repair changes only the new homes of units that were missing"
   pub repair-only : (x : ℕ) → x < length (s .img) → (at (repairImage y (s .rec) (s .img)) x ≡ at (s .img) x) ⊎ Mended y (s .rec) x
+  -- and after it nothing is missing
+  pub repaired : (g c : ℕ) → c < contents y → missing y (repairRecord y (s .rec) (length (s .img))) g c ≡ false
   -- no call is refused with 1, 2 or 3: its own tests decide
   pub accepted : (rest : List (Bool × ℕ)) → refusalBy (poolTests y (s .rec) (length (s .img)) rest) ≡ refusalBy rest
 
@@ -52,6 +55,7 @@ right y v s a =
       looked = look-right y (s .rec) (s .img) (s .file) (a .holds);
       write-only = write-changes y (s .rec) (s .img);
       repair-only = repair-changes y (s .rec) (s .img);
+      repaired = λ g c h. all-repaired y (s .rec) (length (s .img)) (inside-sound y v s a) g c h;
       accepted = sound-passes y (s .rec) (length (s .img)) (inside-sound y v s a);
     }
 

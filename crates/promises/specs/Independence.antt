@@ -1,7 +1,7 @@
 -- "But for the hex line, no answer and no other byte depends on a failed target's bytes or an unused spare's, and no call changes them, except that
 -- repair stores at the spares that become homes." For each call, on any layout, record and image: two images that agree elsewhere give the same
 -- answers and agree elsewhere afterwards. A refusal number, a record and a repair's count depend on no byte: they take the image's length alone.
-use mathlib.Core.Path.{_≡_, sym, ap}
+use mathlib.Core.Path.{_≡_, sym, ap, _∙_}
 use mathlib.Core.Logic.{⊎-elim}
 use mathlib.Core.Bool.{true}
 use mathlib.Core.List.{List}
@@ -89,7 +89,7 @@ module _ (y : Layout) (R : Record) (img : List ℕ) (x : ℕ) (in-image : x < le
   pub repair-leaves-others : (Mended y R x → ⊥) → at (repairImage y R img) x ≡ at img x
   repair-leaves-others no-home = ⊎-elim (λ e. e) (λ w. absurd (no-home w)) (repair-changes y R img x in-image)
 
--- ---- runs: no record, no read, no prepared and no shown look depends on what others scribble
+-- ---- runs: no record, no read and no look depends on what others scribble
 
 module _ (y : Layout) (valid : Valid y) (room : List ℕ) (three : length room ≡ 3) (es : List Event) (inks : ℕ → ℕ → ℕ) where
   together : Twins y (run y (start y room) es) (run y (start y room) (reink inks es))
@@ -102,3 +102,13 @@ module _ (y : Layout) (valid : Valid y) (room : List ℕ) (three : length room �
       → readOut y (run y (start y room) es .rec) (run y (start y room) es .img) offset size
       ≡ readOut y (run y (start y room) es .rec) (run y (start y room) (reink inks es) .img) offset size
   scribbles-unread = read-blind y (run y (start y room) es .rec) (run y (start y room) es .img) (run y (start y room) (reink inks es) .img) (together .agree)
+
+  pub scribbles-unlooked : (size group content : ℕ)
+      → lookShown y (run y (start y room) es .rec) (run y (start y room) es .img) (lookScratch y (run y (start y room) es .rec) (run y (start y room) es .img) size group content) group content
+      ≡ lookShown y (run y (start y room) es .rec) (run y (start y room) (reink inks es) .img)
+      (lookScratch y (run y (start y room) es .rec) (run y (start y room) (reink inks es) .img) size group content) group content
+  scribbles-unlooked size group content =
+      let s = run y (start y room) es in
+      let img′ = run y (start y room) (reink inks es) .img in
+      show-blind y (s .rec) (s .img) img′ (together .agree) (lookScratch y (s .rec) (s .img) size group content) group content
+      ∙ ap (λ (scratch : List ℕ). lookShown y (s .rec) img′ scratch group content) (prepare-blind y (s .rec) (s .img) img′ (together .agree) size group content)

@@ -11,10 +11,10 @@ use Rattle.homes.proofs.free_spare.Statement.{statement}
 use Rattle.homes.proofs.free_spare.Tie as tie
 
 abbrev Inv-loop : tie.InvT-loop
-Inv-loop targets homes m spares failed j i₀ i = (i ≤ spares) × ((k : ℕ) → k < i → free (at targets) m (at failed) j (at homes) k ≡ false)
+Inv-loop targets homes m spares failed j spare₀ spare = (spare ≤ spares) × ((k : ℕ) → k < spare → free (at targets) m (at failed) j (at homes) k ≡ false)
 
 abbrev μ-loop : tie.MeasureT-loop
-μ-loop targets homes m spares failed j i₀ i = spares - i
+μ-loop targets homes m spares failed j spare₀ spare = spares - spare
 
 loop-holds : tie.Need-loop-holds Inv-loop μ-loop
 loop-holds c = (omega arith, below-none _)
@@ -26,10 +26,10 @@ returns : tie.Need-returns Inv-loop μ-loop
 returns c =
     let a = c .before .before .before .before .args in
     let l = c .before .before .before .loop in
-    (sym (lowest-at (free (at (a .targets)) (a .m) (at (a .failed)) (a .j) (at (a .homes))) (a .spares) (l .i) (omega arith) (sym (c .before .is-free .ensures) ∙ c .if1 .taken) (l .inv .1)), omega arith)
+    (sym (lowest-at (free (at (a .targets)) (a .m) (at (a .failed)) (a .j) (at (a .homes))) (a .spares) (l .spare) (omega arith) (sym (c .before .is-free .ensures) ∙ c .if1 .taken) (l .inv .1)), omega arith)
 
-add-i : tie.Need-add-i Inv-loop μ-loop
-add-i c = omega arith
+add-spare : tie.Need-add-spare Inv-loop μ-loop
+add-spare c = omega arith
 
 loop-less : tie.Need-loop-less Inv-loop μ-loop
 loop-less c = omega arith
@@ -46,4 +46,4 @@ returns-2 c =
 pub free-spare-spec : {M : Type 1} → statement M
 free-spare-spec =
     tie.close
-    (tie.spec Inv-loop μ-loop loop-holds is-free-requires returns add-i loop-less loop-again returns-2)
+    (tie.spec Inv-loop μ-loop loop-holds is-free-requires returns add-spare loop-less loop-again returns-2)

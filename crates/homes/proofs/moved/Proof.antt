@@ -13,10 +13,10 @@ use Rattle.homes.proofs.moved.Statement.{statement}
 use Rattle.homes.proofs.moved.Tie as tie
 
 abbrev Inv-loop : tie.InvT-loop
-Inv-loop m spares j targets homes spare gone after₀ c₀ after c = (c ≤ m) × (length after ≡ 19) × ((k : ℕ) → k < c → at after k ≡ pick (eqb (at targets (at homes k)) gone) spare (at homes k))
+Inv-loop m spares j targets homes to gone after₀ c₀ after c = (c ≤ m) × (length after ≡ 19) × ((k : ℕ) → k < c → at after k ≡ pick (eqb (at targets (at homes k)) gone) to (at homes k))
 
 abbrev μ-loop : tie.MeasureT-loop
-μ-loop m spares j targets homes spare gone after₀ c₀ after c = m - c
+μ-loop m spares j targets homes to gone after₀ c₀ after c = m - c
 
 add-free-spare : tie.Need-add-free-spare Inv-loop μ-loop
 add-free-spare c = omega arith
@@ -24,8 +24,8 @@ add-free-spare c = omega arith
 free-spare-requires : tie.Need-free-spare-requires Inv-loop μ-loop
 free-spare-requires c κs = let u = c .pre .0 in omega arith
 
-add-spare : tie.Need-add-spare Inv-loop μ-loop
-add-spare c = let u = c .before .pre .0 in omega (arith, c .free-spare .ensures)
+add-to : tie.Need-add-to Inv-loop μ-loop
+add-to c = let u = c .before .pre .0 in omega (arith, c .free-spare .ensures)
 
 mul-gone : tie.Need-mul-gone Inv-loop μ-loop
 mul-gone c = omega arith
@@ -68,12 +68,12 @@ loop-again c =
     let a = c .before .before .before .before .before .args in
     let l = c .before .before .before .loop in
     let u = c .before .before .before .before .before .pre .0 in
-    let spare : ℕ = a .m + c .before .before .before .before .free-spare .result in
+    let to : ℕ = a .m + c .before .before .before .before .free-spare .result in
     let gone : ℕ = at (a .t5) (a .j) in (
       omega arith,
       length-set (l .after) (l .c) _ ∙ l .inv .1,
-      fill-step (λ k. pick (eqb (at (a .t1) (at (a .t2) k)) gone) spare (at (a .t2) k)) (l .after) (l .c) _ 0 (omega arith)
-          (c .chosen .ensures ∙ ap (λ (t : ℕ). pick (eqb t gone) spare (at (a .t2) (l .c))) (c .before .wide .ensures)) (l .inv .2),
+      fill-step (λ k. pick (eqb (at (a .t1) (at (a .t2) k)) gone) to (at (a .t2) k)) (l .after) (l .c) _ 0 (omega arith)
+          (c .chosen .ensures ∙ ap (λ (t : ℕ). pick (eqb t gone) to (at (a .t2) (l .c))) (c .before .wide .ensures)) (l .inv .2),
     )
 
 returns : tie.Need-returns Inv-loop μ-loop
@@ -89,7 +89,7 @@ moved-spec =
     μ-loop
     add-free-spare
     free-spare-requires
-    add-spare
+    add-to
     mul-gone
     array-read-gone
     loop-holds
