@@ -2,3 +2,4 @@ pub mod Buffer
 pub mod Units
 pub mod Encoding
 pub mod Mending
+pub mod Whole

@@ -1,6 +1,6 @@
 -- The loop that fills the missing units, one run each: what it has done after q of them, a turn, and that it comes to the whole.
 use mathlib.Core.Path.{_≡_, refl, sym, ap, ap₂, _∙_, subst, subst⁻¹}
-use mathlib.Core.Bool.{Bool, true, false, not}
+use mathlib.Core.Bool.{Bool, true, false}
 use mathlib.Core.Logic.{inl, inr, ⊎-elim}
 use mathlib.Core.List.{List, []}
 use Prim.Native.Nat.{ℕ, suc, _+_, _-_, _*_, _/_, _<_, _≤_}
@@ -9,7 +9,7 @@ use native.Mathlib.Omega.{arith}
 use lib.Dec.{ltb}
 use lib.Arith.{digits-lt, digits-div, digits-mod}
 use lib.ListN.{length, getD}
-use borrow.Author.Tests.{lt-ltb, le-ltb, not-true}
+use borrow.Author.Tests.{lt-ltb, le-ltb}
 use Rattle.lists.specs.Pick.{pick, pick-true, pick-false, either-way, below-or-not, equal-or-not, clash}
 use Rattle.lists.specs.Count.{count}
 use Rattle.lists.specs.Those.{those-lt, those-hold, those-place, those-rank}
@@ -19,8 +19,9 @@ use Rattle.field.specs.Byte.{mul}
 use Rattle.field.specs.Sum.{sum-cong}
 use Rattle.kernel.specs.Combine.{sumAt}
 use Rattle.kernel.specs.InPlace.{Apart}
-use Rattle.parity.specs.Group.{Solvable, there, gone, rebuilt}
-use Rattle.parity.specs.Restores.{enough, lost-most}
+use Rattle.parity.specs.Group.{Solvable, gone, rebuilt}
+use Rattle.parity.specs.Restores.{lost-most}
+use Rattle.parity.specs.Local.{slot-there}
 use Rattle.parity.specs.Matrix.{Holds, RowsFor}
 use Rattle.parity.specs.Made.{held-at, gone-most}
 use Rattle.parity.specs.Rows.{slot, rowOf, row-gives}
@@ -64,23 +65,6 @@ pick-same true e = e
 pick-same false e = refl
 
 module _ (n k unit : ℕ) (pos : 0 < unit) (miss : ℕ → Bool) (s : Solvable n k miss) where
-  -- a slot's unit is there
-  pub slot-there : (j : ℕ) → j < n → (miss (slot n k miss j) ≡ false) × (slot n k miss j < n + k)
-  unfolding slot
-  slot-there j h =
-      ⊎-elim
-      (λ (t : miss j ≡ true).
-      let r = le-trans (those-place miss n j h t .0) (enough n k miss s) in
-      let i = getD (there n k miss) (count miss j) 0 in
-      let e = pick-true (miss j) (n + i) j t in (
-        ap miss e ∙ not-true (miss (n + i)) (those-hold (λ i. not (miss (n + i))) k (count miss j) r),
-        omega (arith, e, those-lt (λ i. not (miss (n + i))) k (count miss j) r),
-      ))
-      (λ (t : miss j ≡ false).
-      let e = pick-false (miss j) (n + getD (there n k miss) (count miss j) 0) j t in
-      (ap miss e ∙ t, omega (arith, e, h)))
-      (either-way (miss j))
-
   module _ (old : List ℕ) (size : length old ≡ (n + k) * unit) where
     -- a unit that is there stays
     stays : (y : ℕ) → miss (y / unit) ≡ false → rebuiltByte n k unit miss old y ≡ getD old y 0
@@ -113,7 +97,7 @@ module _ (n k unit : ℕ) (pos : 0 < unit) (miss : ℕ → Bool) (s : Solvable n
         unfolding sumAt rebuiltByte
         unit-byte x l =
             sum-cong n _ _ (λ j h. ap₂ mul (r .coefs-are j h) (ap (λ (z : ℕ). getD buf (z + x) 0) (r .starts-at j h)
-            ∙ there-same (slot n k miss j) x (slot-there j h .1) l (slot-there j h .0)))
+            ∙ there-same (slot n k miss j) x (slot-there n k miss s j h .1) l (slot-there n k miss s j h .0)))
             ∙ sym (row-gives n k miss (lost-most n k miss s) (column old unit x) u missing)
             ∙ ap₂ (λ (a b : ℕ). rebuilt n k miss (column old unit a) b) (sym (digits-mod u l)) (sym (digits-div u l))
 
@@ -165,7 +149,7 @@ module _ (n k unit : ℕ) (pos : 0 < unit) (miss : ℕ → Bool) (s : Solvable n
         pub slots-apart : (j : ℕ) → j < n → Apart (getD starts j 0) at unit (length buf)
         slots-apart j h =
             let v = slot n k miss j in
-            let t = slot-there j h in
+            let t = slot-there n k miss s j h in
             let a = unit-end v (n + k) unit (t .1) in
             let e = r .starts-at j h in
             let l = m .len in

@@ -1,5 +1,5 @@
 -- The call that maps a file offset. "A single offset to be mapped must be below capacity."
-use mathlib.Core.List.{List, [], _∷_}
+use mathlib.Core.List.{[], _∷_}
 use Prim.Native.Nat.{ℕ}
 use lib.Dec.{ltb}
 use Rattle.lists.specs.Refusal.{refusalBy, grant}

@@ -1,5 +1,5 @@
 -- The calls that answer a unit's place and the unit at a place.
-use mathlib.Core.List.{List, [], _∷_}
+use mathlib.Core.List.{[], _∷_}
 use Prim.Native.Nat.{ℕ}
 use lib.Dec.{ltb}
 use Rattle.lists.specs.Refusal.{refusalBy, grant}

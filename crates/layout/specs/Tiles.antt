@@ -1,8 +1,7 @@
 -- The calls that answer a tile's permutation and its inverse: 64 entries by value, all 0 where refused.
-use mathlib.Core.List.{List, [], _∷_}
+use mathlib.Core.List.{[], _∷_}
 use Prim.Native.Nat.{ℕ}
 use lib.Dec.{ltb}
-use lib.ListN.{replicate}
 use Rattle.lists.specs.Tabulate.{zeros}
 use Rattle.lists.specs.Refusal.{refusalBy, grant}
 use Rattle.numbers.specs.declared.Layout.{Layout}

@@ -1,6 +1,6 @@
 -- "A walk over one target hands its cursor back after each frame, with the group and unit lying there, frames rising. At frame L·T it says
 -- done; a cursor beyond that is 4. Done or refused, the cursor comes back unchanged."
-use mathlib.Core.List.{List, [], _∷_}
+use mathlib.Core.List.{[], _∷_}
 use Prim.Native.Nat.{ℕ, _+_}
 use lib.Dec.{ltb, leb}
 use Rattle.lists.specs.Pick.{pick}

@@ -1,6 +1,6 @@
 -- How many numbers below n pass a test, and the sum of a function below n.
 use mathlib.Core.Path.{_≡_, refl, sym, ap, ap₂, _∙_}
-use mathlib.Core.Logic.{_⊎_, inl, inr, ⊎-elim}
+use mathlib.Core.Logic.{_⊎_, inl, inr}
 use mathlib.Core.Bool.{Bool, true, false, not}
 use Prim.Native.Nat.{ℕ, zero, suc, _+_, _*_, _%_, _≤_, _<_}
 use native.Mathlib.Nat.{le-refl, add-zero, add-suc, add-assoc, mul-zero, mul-suc, not-suc-le-zero, le-of-suc-le-suc, eq-or-lt-of-le, le-dest}

@@ -1,6 +1,6 @@
 -- A number by its digits m q + r with r < m, at a base that is a variable.
-use mathlib.Core.Path.{_≡_, refl, sym, ap, _∙_, subst}
-use Prim.Native.Nat.{ℕ, zero, suc, _+_, _*_, _/_, _%_, _≤_, _<_}
+use mathlib.Core.Path.{_≡_, ap, _∙_, subst}
+use Prim.Native.Nat.{ℕ, suc, _+_, _*_, _/_, _%_, _≤_, _<_}
 use native.Mathlib.Nat.{mul-comm, mul-le-mul-left, mul-add-div, mul-add-mod-self-left, mod-eq-of-lt, div-eq-of-lt, add-zero, div-add-mod, div-lt-iff-lt-mul, lt-of-mul-lt-mul-left, le-of-suc-le-suc}
 use native.Mathlib.Omega.{arith}
 

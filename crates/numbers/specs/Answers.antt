@@ -1,9 +1,9 @@
 -- W, B, L, C and the numbers that follow, as the code hands them over, with the orders that its callers' arithmetic wants.
 use mathlib.Core.Path.{_≡_, refl}
-use Prim.Native.Nat.{ℕ, _*_, _≤_, _<_}
+use Prim.Native.Nat.{_*_, _≤_, _<_}
 use native.Mathlib.Omega.{arith}
 use Rattle.numbers.specs.Layouts.{Valid, width, block, rows, groups, frames, allGroups, capacity, imageLength}
-use Rattle.numbers.specs.Shapes.{rows-pos, rows-le, groups-pos, groups-le, width-groups-rows, Products, layout-products}
+use Rattle.numbers.specs.Shapes.{rows-pos, rows-le, groups-pos, groups-le, width-groups-rows, layout-products}
 use Rattle.numbers.specs.declared.Layout.{Layout}
 use Rattle.numbers.specs.declared.Shape.{Shape}
 use Rattle.numbers.specs.declared.Numbers.{Numbers}

@@ -1,8 +1,8 @@
 -- The greatest common divisor by Euclid's rule, the least common multiple, and their laws.
 use mathlib.Core.Path.{_≡_, refl, sym, ap, _∙_, subst}
-use mathlib.Core.Logic.{_≢_, inl, inr}
-use Prim.Native.Nat.{ℕ, zero, suc, _+_, _*_, _-_, _/_, _%_, _≤_, _<_, _∣_, zero-le, suc-le-suc}
-use native.Mathlib.Nat.{le-refl, le-trans, le-of-suc-le-suc, not-suc-le-zero, mod-lt, zero-lt-suc, dvd-refl, dvd-zero, dvd-mod-iff, dvd-antisymm, dvd-trans, dvd-mul-left, dvd-mul-right, mul-div-cancel', div-mul-cancel, mul-zero, zero-mul, mul-comm, mul-assoc, mul-left-comm, mul-dvd-mul-left, mul-dvd-mul-right, dvd-of-mul-dvd-mul-left, dvd-of-mul-dvd-mul-right, pos-of-dvd-of-pos, mod-def, mul-sub, mul-div-mul-left, mul-div-assoc, mul-pos, eq-zero-or-pos, mul-right-comm}
+use mathlib.Core.Logic.{inl, inr}
+use Prim.Native.Nat.{ℕ, zero, suc, _*_, _-_, _/_, _%_, _≤_, _<_, _∣_}
+use native.Mathlib.Nat.{le-refl, not-suc-le-zero, mod-lt, zero-lt-suc, dvd-refl, dvd-zero, dvd-mod-iff, div-mul-cancel, mul-zero, mul-comm, mul-assoc, mul-dvd-mul-left, mul-dvd-mul-right, dvd-of-mul-dvd-mul-right, pos-of-dvd-of-pos, mod-def, mul-sub, mul-div-mul-left, mul-div-assoc, mul-pos, eq-zero-or-pos, mul-right-comm}
 use native.Mathlib.Omega.{arith}
 
 -- Euclid's rule with a bound on its steps

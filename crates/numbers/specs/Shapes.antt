@@ -1,10 +1,10 @@
 -- W·C = P·L = B, and B is the least common multiple; bounds of all the numbers that follow.
-use mathlib.Core.Path.{_≡_, refl, sym, ap, _∙_, subst}
+use mathlib.Core.Path.{_≡_, sym, ap, _∙_, subst}
 use mathlib.Core.Logic.{inl, inr}
-use Prim.Native.Nat.{ℕ, _+_, _*_, _/_, _≤_, _<_, _∣_}
+use Prim.Native.Nat.{ℕ, _*_, _/_, _≤_, _<_, _∣_}
 use native.Mathlib.Nat.{dvd-mul-left, dvd-mul-right, mul-comm, mul-div-cancel', mul-div-cancel, mul-div-cancel-left, mul-pos, eq-zero-or-pos, div-le-self, mul-le-mul, lt-irrefl, pos-of-dvd-of-pos, mul-zero}
 use native.Mathlib.Omega.{arith}
-use Rattle.numbers.specs.Gcd.{gcd, gcd-dvd, gcd-pos, lcm, lcm-left, lcm-right, lcm-dvd}
+use Rattle.numbers.specs.Gcd.{gcd, gcd-dvd, lcm, lcm-left, lcm-right, lcm-dvd}
 use Rattle.numbers.specs.Layouts.{Valid, width, block, rows, groups}
 use Rattle.numbers.specs.declared.Layout.{Layout}
 

@@ -3,6 +3,7 @@ pub mod Content
 pub mod Restores
 pub mod Lowest
 pub mod Rows
+pub mod Local
 pub mod Matrix
 pub mod Steps
 pub mod Made

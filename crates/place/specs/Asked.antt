@@ -8,7 +8,7 @@ use Rattle.lists.specs.Tabulate.{at}
 use Rattle.lists.specs.Digits.{div-below}
 use Rattle.numbers.specs.declared.Layout.{Layout}
 use Rattle.numbers.specs.declared.Shape.{Shape}
-use Rattle.numbers.specs.Layouts.{Valid, width, rows, groups, frames, allGroups}
+use Rattle.numbers.specs.Layouts.{Valid, width, frames, allGroups}
 use Rattle.numbers.specs.Answers.{Shaped}
 use Rattle.tile.specs.Permutation.{permutationOf, inverseOf}
 use Rattle.place.specs.declared.Place.{Place}

@@ -1,11 +1,11 @@
 -- File bytes, image bytes and bytes of units: each is found from the other.
 use mathlib.Core.Path.{_≡_, refl, sym, ap, _∙_, subst}
-use Prim.Native.Nat.{ℕ, _+_, _*_, _/_, _%_, _≤_, _<_}
+use Prim.Native.Nat.{ℕ, _+_, _*_, _/_, _%_, _<_}
 use native.Mathlib.Nat.{mul-comm, mul-assoc, mul-left-comm, mul-pos, div-add-mod, mod-lt, add-assoc}
 use native.Mathlib.Omega.{arith}
 use Rattle.lists.specs.Digits.{div-of, mod-of, digits-below, div-below}
 use Rattle.numbers.specs.declared.Layout.{Layout}
-use Rattle.numbers.specs.Layouts.{Valid, width, rows, groups, frames, allGroups, capacity, imageLength}
+use Rattle.numbers.specs.Layouts.{Valid, width, groups, frames, allGroups, capacity, imageLength}
 use Rattle.numbers.specs.Shapes.{rows-pos}
 use Rattle.place.specs.declared.Place.{Place}
 use Rattle.place.specs.declared.Unit.{Unit}

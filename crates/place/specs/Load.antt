@@ -1,6 +1,6 @@
 -- "Further facts wanted: a whole tile gives every target exactly L units; over the first g groups the unit counts of any two targets
 -- differ by at most L", for any permutation of each tile.
-use mathlib.Core.Path.{_≡_, refl, sym, ap, _∙_, subst}
+use mathlib.Core.Path.{_≡_, sym, ap, _∙_, subst}
 use mathlib.Core.Bool.{Bool}
 use Prim.Native.Nat.{ℕ, zero, suc, _+_, _*_, _/_, _%_, _≤_, _<_}
 use native.Mathlib.Nat.{le-refl, le-of-lt, mul-zero, mul-suc, mod-lt, div-add-mod, mul-le-mul-left, lt-of-lt-of-le}
@@ -10,7 +10,7 @@ use Rattle.lists.specs.Pick.{eqb-iff}
 use Rattle.lists.specs.Digits.{div-of, mod-of}
 use Rattle.lists.specs.Count.{count, sum, count-same, sum-same, sum-add, count-blocks, count-mono, count-mod}
 use Rattle.lists.specs.Bijection.{Bijection}
-use Rattle.place.specs.Units.{Widths, Tiled, inTile, targetOf}
+use Rattle.place.specs.Units.{Widths, Tiled, targetOf}
 
 -- the units of group g on target t, and those of the first n groups
 unfoldable pub unitsOn : Widths → (ℕ → ℕ → ℕ) → ℕ → ℕ → ℕ

@@ -1,8 +1,7 @@
 -- Demand 2, placement: "Unit to frame and frame to unit undo each other over the whole pool, no two units of one group share a drive".
 -- Each theorem says what it says for every layout within the bounds.
-use mathlib.Core.Path.{_≡_, refl, sym, ap, _∙_}
+use mathlib.Core.Path.{_≡_}
 use Prim.Native.Nat.{ℕ, _+_, _*_, _^_, _≤_, _<_, _∣_}
-use native.Mathlib.Nat.{le-refl}
 use native.Mathlib.Omega.{arith}
 use Rattle.lists.specs.Tabulate.{at}
 use Rattle.lists.specs.Bijection.{Bijection}
@@ -10,9 +9,7 @@ use Rattle.numbers.specs.declared.Layout.{Layout}
 use Rattle.numbers.specs.Layouts.{Valid, width, block, rows, groups, frames, allGroups, capacity, imageLength}
 use Rattle.numbers.specs.Shapes.{width-groups, targets-rows, block-multiple, block-least, layout-products}
 use Rattle.tile.specs.Permutation.{permutationOf, inverseOf}
-use Rattle.tile.specs.Laws.{permutation-inverse, permutation-own}
-use Rattle.place.specs.declared.Place.{Place}
-use Rattle.place.specs.declared.Unit.{Unit}
+use Rattle.tile.specs.Laws.{permutation-own}
 use Rattle.place.specs.Units.{Widths, Tiled, frameOf, targetOf, groupAt, unitAt}
 use Rattle.place.specs.UnitLaws as U
 use Rattle.place.specs.Load as L

@@ -1,7 +1,7 @@
 -- Demand 1: each public call "answers with the lowest refusal number of document 01 that applies": of its tests, each with its number, the
 -- lowest number of one that fails, and 0 only where none fails.
-use mathlib.Core.Path.{_≡_, refl}
-use mathlib.Core.List.{List, [], _∷_}
+use mathlib.Core.Path.{refl}
+use mathlib.Core.List.{[], _∷_}
 use Prim.Native.Nat.{ℕ}
 use native.Mathlib.Omega.{arith}
 use lib.Dec.{ltb, leb}

@@ -1,5 +1,5 @@
 -- The walk from frame 0 visits each (group, unit) of its target exactly once, in frame order, and says done at the end.
-use mathlib.Core.Path.{_≡_, refl, sym, ap, _∙_}
+use mathlib.Core.Path.{_≡_, sym, ap, _∙_}
 use mathlib.Core.List.{List, [], _∷_}
 use Prim.Native.Nat.{ℕ, zero, suc, _+_, _≤_, _<_}
 use native.Mathlib.Nat.{le-of-eq, zero-add, add-zero}

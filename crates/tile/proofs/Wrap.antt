@@ -1,7 +1,7 @@
 -- The low two digits of a product, in any base Q, from products of digits.
-use mathlib.Core.Path.{_≡_, refl, sym, ap, _∙_, subst}
-use Prim.Native.Nat.{ℕ, zero, suc, _+_, _*_, _/_, _%_, _^_, _≤_, _<_}
-use native.Mathlib.Nat.{add-assoc, add-comm, add-left-comm, mul-assoc, mul-comm, mul-left-comm, mul-add, add-mul, add-mod, add-mul-mod-self-right, div-add-mod', mul-le-mul, mod-lt, mod-eq-of-lt, mod-add-mod, add-mod-mod}
+use mathlib.Core.Path.{_≡_, refl, sym, ap, _∙_}
+use Prim.Native.Nat.{ℕ, _+_, _*_, _/_, _%_, _^_, _≤_, _<_}
+use native.Mathlib.Nat.{add-assoc, add-comm, mul-assoc, mul-comm, mul-left-comm, mul-add, add-mul, add-mod, add-mul-mod-self-right, div-add-mod', mul-le-mul}
 use native.Mathlib.Omega.{arith}
 
 expand : (Q a₁ a₀ b₁ b₀ : ℕ) → (a₁ * Q + a₀) * (b₁ * Q + b₀) ≡ a₀ * b₀ + (a₁ * b₀ + a₀ * b₁) * Q + a₁ * b₁ * (Q * Q)

@@ -1,6 +1,6 @@
 -- "The permutation of a tile": the entries, and the inverse.
 use mathlib.Core.List.{List, [], _∷_}
-use Prim.Native.Nat.{ℕ, zero, suc, _+_, _-_}
+use Prim.Native.Nat.{ℕ, zero, suc, _-_}
 use lib.Dec.{eqb}
 use lib.ListN.{set}
 use Rattle.lists.specs.Pick.{pick}

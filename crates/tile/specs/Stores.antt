@@ -1,5 +1,5 @@
 -- The inverse by stores: entry (a at k) of b is k, for each k below t, and then below t + 1; at 64 the list is the inverse.
-use mathlib.Core.Path.{_≡_, refl, sym, ap, _∙_, subst}
+use mathlib.Core.Path.{_≡_, sym, ap, _∙_, subst}
 use mathlib.Core.List.{List}
 use Prim.Native.Nat.{ℕ, _+_, _<_, _≤_}
 use native.Mathlib.Nat.{le-refl}

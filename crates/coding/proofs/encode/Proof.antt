@@ -4,7 +4,6 @@ use Prim.Native.Nat.{ℕ, _+_, _-_, _*_, _≤_}
 use native.Mathlib.Nat.{le-refl, le-trans, add-mul, add-zero}
 use native.Mathlib.Omega.{arith}
 use lib.ListN.{length}
-use Rattle.field.specs.Byte.{inv}
 use Rattle.lists.specs.Span.{Span, span-none}
 use Rattle.coding.specs.Buffer.{contentByte}
 use Rattle.coding.specs.Units.{unit-end, next-parity}

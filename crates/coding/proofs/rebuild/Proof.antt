@@ -1,4 +1,5 @@
 -- `coding::rebuild`. The loop keeps: the first q missing units are filled, for the set of missing units for which all was worked out. A turn is `mend-turn`.
+use Rattle.parity.specs.Local.{slot-there}
 use mathlib.Core.Path.{_≡_, refl, ap, _∙_}
 use mathlib.Core.List.{[]}
 use mathlib.Core.Bool.{Bool}
@@ -7,12 +8,11 @@ use native.Mathlib.Nat.{le-trans}
 use native.Mathlib.Omega.{arith}
 use lib.ListN.{length, getD}
 use Rattle.lists.specs.Count.{count}
-use Rattle.field.specs.Byte.{inv}
 use Rattle.parity.specs.Rows.{slot}
 use Rattle.parity.specs.Matrix.{flag}
 use Rattle.parity.specs.Made.{gone-most}
 use Rattle.coding.specs.Units.{unit-end}
-use Rattle.coding.specs.Mending.{Mended, Ready, ready-rank, ready-unit, ready-run, slot-there, mend-none, mend-turn, mend-all, slots-apart, unit-fits}
+use Rattle.coding.specs.Mending.{Mended, Ready, ready-rank, ready-unit, ready-run, mend-none, mend-turn, mend-all, slots-apart, unit-fits}
 use Rattle.coding.proofs.rebuild.Statement.{statement}
 use Rattle.coding.proofs.rebuild.Tie as tie
 
@@ -41,7 +41,7 @@ starts-of-requires c κs =
     let p = c .before .before .before .before .before .pre in (
       p .0 .data-max,
       λ j h.
-          let v = slot-there (a .n) (a .k) (a .unit) (p .1) (flag (a .miss)) (p .0) j h .1 in
+          let v = slot-there (a .n) (a .k) (flag (a .miss)) (p .0) j h .1 in
           omega (arith, ap (_* a .unit) (c .slots .ensures j h), unit-end (slot (a .n) (a .k) (flag (a .miss)) j) (a .n + a .k) (a .unit) v, p .2),
     )
 

@@ -5,7 +5,6 @@ use native.Mathlib.Nat.{not-suc-le-zero}
 use native.Mathlib.Omega.{arith}
 use lib.ListN.{length, getD, length-set}
 use Rattle.lists.specs.Tabulate.{fill-step}
-use Rattle.field.specs.Byte.{inv}
 use Rattle.coding.proofs.starts_of.Statement.{statement}
 use Rattle.coding.proofs.starts_of.Tie as tie
 

@@ -1,5 +1,5 @@
 -- `layout::find_place` meets its contract: refused with the place's number and zeros, or accepted with the place.
-use mathlib.Core.Path.{_≡_, sym, ap, _∙_, subst⁻¹}
+use mathlib.Core.Path.{sym, ap, _∙_, subst⁻¹}
 use Prim.Native.Nat.{ℕ, _<_}
 use borrow.Author.Needs.{needs}
 use Rattle.lists.specs.Refusal.{refused-answer, accepted-answer}

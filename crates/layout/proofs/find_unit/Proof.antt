@@ -1,5 +1,5 @@
 -- `layout::find_unit` meets its contract: refused with the place's number and zeros, or accepted with the unit.
-use mathlib.Core.Path.{_≡_, sym, ap, _∙_}
+use mathlib.Core.Path.{sym, ap, _∙_}
 use Prim.Native.Nat.{ℕ, _<_}
 use borrow.Author.Needs.{needs}
 use Rattle.lists.specs.Refusal.{refused-answer, accepted-answer}

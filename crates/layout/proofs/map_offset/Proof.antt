@@ -1,6 +1,6 @@
 -- `layout::map_offset` meets its contract: the digits of the offset are a unit of a group, and its place gives the image byte.
-use mathlib.Core.Path.{_≡_, sym, ap, _∙_, subst⁻¹}
-use Prim.Native.Nat.{ℕ, _*_, _<_, _≤_}
+use mathlib.Core.Path.{sym, ap, _∙_, subst⁻¹}
+use Prim.Native.Nat.{ℕ, _*_, _<_}
 use native.Mathlib.Nat.{mul-le-mul}
 use native.Mathlib.Omega.{arith}
 use borrow.Author.Needs.{needs}
@@ -10,7 +10,6 @@ use Rattle.place.specs.declared.Place.{Place}
 use Rattle.place.specs.PlaceLaws.{place-in}
 use Rattle.place.specs.Bytes.{groupOf, unitIn, byteIn, spotOf, imageByte}
 use Rattle.place.specs.ByteLaws.{data-bytes, byte-lt, group-lt, unit-in-width}
-use Rattle.layout.specs.declared.Mapped.{Mapped}
 use Rattle.layout.specs.Offsets.{mappedOf}
 use Rattle.layout.specs.Asked.{offset-asked}
 use Rattle.layout.proofs.map_offset.Statement.{statement}

@@ -4,7 +4,6 @@ use Prim.Native.Nat.{ℕ}
 use borrow.Author.Needs.{needs}
 use Rattle.lists.specs.Refusal.{refused-answer, accepted-answer}
 use Rattle.numbers.specs.declared.Numbers.{Numbers}
-use Rattle.numbers.specs.Layouts.{Valid}
 use Rattle.numbers.specs.Refused.{good-layout}
 use Rattle.layout.specs.declared.Measured.{Measured}
 use Rattle.layout.specs.Measure.{measuredOf, noNumbers}

@@ -1,5 +1,4 @@
 -- `layout::offset_refusal` meets its contract: each return rewrites the table by the tests that led there.
-use mathlib.Core.List.{List, [], _∷_}
 use Prim.Native.Nat.{_≤_, _<_}
 use native.Mathlib.Omega.{arith}
 use borrow.Author.Needs.{needs}

@@ -1,5 +1,5 @@
 -- `place::place_in` meets its contract: what the code builds is `placeOf` with the shape's numbers for the layout's.
-use mathlib.Core.Path.{_≡_, refl, sym, ap, _∙_}
+use mathlib.Core.Path.{ap, _∙_}
 use mathlib.Core.List.{List}
 use Prim.Native.Nat.{ℕ, _+_, _*_, _/_, _%_}
 use native.Mathlib.Omega.{arith}

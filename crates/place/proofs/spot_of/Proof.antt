@@ -6,7 +6,6 @@ use Rattle.numbers.specs.Layouts.{imageLength}
 use Rattle.place.specs.Bytes.{spotOf}
 use Rattle.place.specs.ByteLaws.{spot-lt}
 use Rattle.place.specs.Asked.{SpotFits, spot-fits}
-use borrow.Author.Needs.{needs}
 use Rattle.place.proofs.spot_of.Statement.{statement}
 use Rattle.place.proofs.spot_of.Tie as tie
 

@@ -1,10 +1,10 @@
 -- `tile::inverse` meets its contract: the permutation's 64 entries are a bijection, so the stores give its inverse.
-use mathlib.Core.Path.{_≡_, refl, sym, ap, _∙_, subst}
+use mathlib.Core.Path.{sym, ap, _∙_, subst}
 use mathlib.Core.List.{List}
-use Prim.Native.Nat.{ℕ, _+_, _-_, _≤_, _<_}
+use Prim.Native.Nat.{ℕ, _-_}
 use native.Mathlib.Nat.{le-refl}
 use native.Mathlib.Omega.{arith}
-use Rattle.tile.specs.Permutation.{permutationOf, inverseOf}
+use Rattle.tile.specs.Permutation.{inverseOf}
 use Rattle.tile.specs.Laws.{Permutes, permutation-bijection}
 use borrow.Author.Needs.{needs}
 use Rattle.tile.proofs.inverse.Statement.{statement}

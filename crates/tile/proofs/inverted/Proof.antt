@@ -1,11 +1,10 @@
 -- `tile::inverted` meets its contract: every store puts an index where its entry says.
 use native.Mathlib.Nat.{not-suc-le-zero}
-use mathlib.Core.Path.{_≡_, refl, sym, ap, _∙_, subst}
-use Prim.Native.Nat.{ℕ, _+_, _-_, _≤_, _<_}
+use mathlib.Core.Path.{_≡_, refl, _∙_}
+use Prim.Native.Nat.{ℕ, _-_, _≤_, _<_}
 use native.Mathlib.Omega.{arith}
 use borrow.Author.Needs.{needs}
-use lib.ListN.{length, getD, length-set}
-use Rattle.tile.specs.Permutation.{inverseOf}
+use lib.ListN.{length, length-set}
 use Rattle.lists.specs.Tabulate.{at}
 use Rattle.tile.specs.Stores.{store-next, stores-inverse}
 use Rattle.tile.proofs.inverted.Statement.{statement}

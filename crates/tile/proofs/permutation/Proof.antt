@@ -1,10 +1,10 @@
 -- `tile::permutation` meets its contract. What is left to do, done to what stands, is the answer.
-use mathlib.Core.Path.{_≡_, refl, sym, ap, _∙_, subst}
-use Prim.Native.Nat.{ℕ, _+_, _-_, _≤_, _<_}
+use mathlib.Core.Path.{_≡_, sym, ap, _∙_}
+use Prim.Native.Nat.{ℕ, _-_, _<_}
 use native.Mathlib.Omega.{arith}
 use borrow.Author.Needs.{needs}
 use Rattle.tile.specs.Generator.{startOf, nextOf, drawOf}
-use Rattle.tile.specs.Permutation.{own, exchange, shuffleOf, permutationOf}
+use Rattle.tile.specs.Permutation.{exchange, shuffleOf, permutationOf}
 use Rattle.tile.specs.Laws.{shuffle-step}
 use Rattle.tile.proofs.permutation.Statement.{statement}
 use Rattle.tile.proofs.permutation.Tie as tie

@@ -1,6 +1,6 @@
 -- `tile::wrapping_mul` meets its contract: `low-digits` in base 2^32.
-use mathlib.Core.Path.{_≡_, sym, ap, _∙_}
-use Prim.Native.Nat.{ℕ, _+_, _*_, _%_, _^_, _<_}
+use mathlib.Core.Path.{_∙_}
+use Prim.Native.Nat.{_^_}
 use native.Mathlib.Omega.{arith}
 use Rattle.tile.proofs.Wrap.{low-digits, half-product}
 use borrow.Author.Needs.{needs}

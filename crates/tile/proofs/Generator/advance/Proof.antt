@@ -1,9 +1,8 @@
 -- `Generator::advance` meets its contract: the product wraps, then the sum.
-use mathlib.Core.Path.{_≡_, sym, ap, _∙_}
-use Prim.Native.Nat.{ℕ, _+_, _*_, _%_, _^_, _<_}
-use native.Mathlib.Omega.{arith}
-use native.Mathlib.Nat.{mod-add-mod, add-mod-mod}
-use Rattle.tile.specs.Generator.{startOf, nextOf}
+use mathlib.Core.Path.{ap, _∙_}
+use Prim.Native.Nat.{ℕ, _+_, _*_, _%_, _^_}
+use native.Mathlib.Nat.{mod-add-mod}
+use Rattle.tile.specs.Generator.{nextOf}
 use borrow.Author.Needs.{needs}
 use Rattle.tile.proofs.Generator.advance.Statement.{statement}
 use Rattle.tile.proofs.Generator.advance.Tie as tie

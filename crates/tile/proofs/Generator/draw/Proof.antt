@@ -1,8 +1,8 @@
 -- `Generator::draw` meets its contract: the upper half of the state is below 2^32.
-use mathlib.Core.Path.{_≡_, refl, sym, ap, _∙_}
-use Prim.Native.Nat.{ℕ, _+_, _*_, _/_, _%_, _^_, _≤_, _<_}
+use mathlib.Core.Path.{refl}
+use Prim.Native.Nat.{_+_, _/_, _≤_}
 use native.Mathlib.Omega.{arith}
-use native.Mathlib.Nat.{mul-le-mul, mul-le-mul-right, div-lt-iff-lt-mul, mul-comm}
+use native.Mathlib.Nat.{mul-le-mul-right}
 use Rattle.tile.specs.Generator.{drawOf}
 use borrow.Author.Needs.{needs}
 use Rattle.tile.proofs.Generator.draw.Statement.{statement}

@@ -1,0 +1,4 @@
+pub mod Encode
+pub mod Rebuild
+pub mod Flags
+pub mod Accepted
