@@ -1,10 +1,12 @@
 -- An image with bytes of one group laid on it.
-use mathlib.Core.Path.{_≡_, refl, sym, subst, subst⁻¹, _∙_}
-use mathlib.Core.Bool.{Bool, true}
+use mathlib.Core.Path.{_≡_, refl, sym, ap₂, subst, _∙_}
+use mathlib.Core.Logic.{⊎-elim}
+use mathlib.Core.Bool.{Bool, true, false}
 use mathlib.Core.List.{List}
 use Prim.Native.Nat.{ℕ, _+_, _<_, _≤_}
 use native.Mathlib.Omega.{arith}
 use lib.ListN.{length, getD}
+use Rattle.lists.specs.Pick.{pick, pick-true, pick-false, either-way, clash}
 
 -- img′ is img with val c o at byte o of the unit of content c, which begins at `at c`, wherever on c o holds: this says each byte of img′. m
 -- contents, units of u bytes
@@ -27,15 +29,18 @@ module _ (m u : ℕ) (at : ℕ → ℕ) where
         miss = λ x h w. l .miss x h (λ c o hc ho t q. w c o hc ho (sym (e c o hc ho) ∙ t) q);
       }
 
-  -- a column in which nothing is laid is as it was
-  pub lays-kept : ((c d x y : ℕ) → c < m → d < m → x < u → y < u → at c + x ≡ at d + y → c ≡ d) → (on : ℕ → ℕ → Bool) (val : ℕ → ℕ → ℕ) (img img′ : List ℕ)
-      → ((c : ℕ) → c < m → at c + u ≤ length img) → Lays m u at on val img img′ → (c o : ℕ) → c < m → o < u
-      → ((d : ℕ) → d < m → on d o ≡ true → ⊥) → getD img′ (at c + o) 0 ≡ getD img (at c + o) 0
-  lays-kept apart on val img img′ inside l c o hc ho non =
-      l .miss (at c + o) (omega (arith, inside c hc))
-      (λ d y hd hy t q.
-      let f : o ≡ y = offset-eq d y (apart c d o y hc hd ho hy q) q in
-      non d hd (subst⁻¹ (λ (z : ℕ). on d z ≡ true) f t))
-    where
-      offset-eq : (d y : ℕ) → c ≡ d → at c + o ≡ at d + y → o ≡ y
-      offset-eq d y e q = let z : at d + o ≡ at d + y = subst (λ (k : ℕ). at k + o ≡ at d + y) e q in omega arith
+  module _ (apart : (c d x y : ℕ) → c < m → d < m → x < u → y < u → at c + x ≡ at d + y → c ≡ d) (on : ℕ → ℕ → Bool) (val : ℕ → ℕ → ℕ) (img img′ : List ℕ)
+      (inside : (c : ℕ) → c < m → at c + u ≤ length img) (l : Lays m u at on val img img′) where
+    offset-eq : (c d o y : ℕ) → c ≡ d → at c + o ≡ at d + y → o ≡ y
+    offset-eq c d o y e q = let z : at d + o ≡ at d + y = subst (λ (k : ℕ). at k + o ≡ at d + y) e q in omega arith
+
+    -- a byte of a unit: what is laid there, or what it was
+    pub lays-home : (c o : ℕ) → c < m → o < u → getD img′ (at c + o) 0 ≡ pick (on c o) (val c o) (getD img (at c + o) 0)
+    lays-home c o hc ho =
+        ⊎-elim (λ (t : on c o ≡ true). l .hit c o hc ho t ∙ sym (pick-true (on c o) _ _ t))
+        (λ (t : on c o ≡ false).
+        l .miss (at c + o) (omega (arith, inside c hc))
+        (λ d y hd hy s q.
+        let e : c ≡ d = apart c d o y hc hd ho hy q in
+        clash (on c o) (ap₂ on e (offset-eq c d o y e q) ∙ s) t)
+        ∙ sym (pick-false (on c o) _ _ t)) (either-way (on c o))

@@ -12,13 +12,13 @@ use lib.ListN.{length, getD}
 use Rattle.lists.specs.Pick.{pick, both, pick-true, pick-false, either-way, both-true, both-hold, clash, below-or-not}
 use Rattle.lists.specs.Search.{any, any-true, any-false}
 use Rattle.parity.specs.Content.{content-cong}
+use Rattle.parity.specs.Local.{rebuilt-cong}
 use Rattle.plan.specs.declared.Plan.{Plan}
 use Rattle.plan.specs.Plans.{atOf, missOf, Fits, Apart, Right, column, held}
-use Rattle.plan.specs.Same.{rebuilt-same}
 use Rattle.runs.specs.Run.{within-cases, paint, paint-length, paint-hit, paint-miss}
 use Rattle.updates.specs.Writing.{laid, newContent, storesIn, newRun, runWritten}
-use Rattle.groups.specs.Between.{between, between-in, between-true, between-cases}
-use Rattle.groups.specs.Lays.{Lays, lays-none, lays-ext, lays-kept}
+use Rattle.groups.specs.Between.{between, between-in, between-before, between-after, between-true, between-cases}
+use Rattle.groups.specs.Lays.{Lays, lays-none, lays-ext, lays-home}
 use Rattle.groups.specs.Write.{nameAt, onAt, valAt, onIn, Cut, Uncut}
 use Rattle.groups.specs.Cuts.{unitFrom, unit-le, names}
 
@@ -28,7 +28,7 @@ module _ (P : Plan) (r : Right P) (img other bytes : List ℕ) (s a o : ℕ) (nm
     (same : (c : ℕ) → c < P .n + P .k → missOf P c ≡ false → column P img o c ≡ column P other o c) (test : (j : ℕ) → j < P .n → nm j ≡ nm′ j) where
   pub held-local : (c : ℕ) → c < P .n + P .k → held P img o c ≡ held P other o c
   unfolding held
-  held-local c h = rebuilt-same (P .n) (P .k) (missOf P) (r .solvable) (column P img o) (column P other o) same c h
+  held-local c h = rebuilt-cong (P .n) (P .k) (missOf P) (r .solvable) (column P img o) (column P other o) same c h
 
   laid-local : (j : ℕ) → j < P .n → laid P img bytes s a nm o j ≡ laid P other bytes s a nm′ o j
   unfolding laid
@@ -140,15 +140,15 @@ module _ (P : Plan) (img₀ img img′ bytes : List ℕ) (s a lo hi : ℕ) (fits
   kept-column : (c o : ℕ) → c < P .n + P .k → o < P .u → lo ≤ o → column P img o c ≡ column P img₀ o c
   unfolding onIn column
   kept-column c o hc ho hl =
-      lays-kept (P .n + P .k) (P .u) (atOf P) (apt .apart) _ _ img₀ img (fits .inside) l₁ c o hc ho
-      (λ d hd t. let b = between-true 0 lo o (both-true (between 0 lo o) _ t .0) in absurd (omega (arith, b .1)))
+      lays-home (P .n + P .k) (P .u) (atOf P) (apt .apart) _ _ img₀ img (fits .inside) l₁ c o hc ho
+      ∙ pick-false _ _ _ (pick-false (between 0 lo o) _ _ (between-after 0 lo o hl))
 
   -- and then those below lo
   kept-below : (c o : ℕ) → c < P .n + P .k → o < P .u → o < lo → getD img′ (atOf P c + o) 0 ≡ getD img (atOf P c + o) 0
   unfolding onIn
   kept-below c o hc ho h =
-      lays-kept (P .n + P .k) (P .u) (atOf P) (apt .apart) _ _ img img′ (λ d hd. subst⁻¹ (λ (z : ℕ). atOf P d + P .u ≤ z) (l₁ .same) (fits .inside d hd)) l₂ c o hc ho
-      (λ d hd t. let b = between-true lo hi o (both-true (between lo hi o) _ t .0) in absurd (omega (arith, b .0)))
+      lays-home (P .n + P .k) (P .u) (atOf P) (apt .apart) _ _ img img′ (λ d hd. subst⁻¹ (λ (z : ℕ). atOf P d + P .u ≤ z) (l₁ .same) (fits .inside d hd)) l₂ c o hc ho
+      ∙ pick-false _ _ _ (pick-false (between lo hi o) _ _ (between-before lo hi o h))
 
   lays-next : Lays (P .n + P .k) (P .u) (atOf P) (onIn 0 hi P s a (length bytes)) (valAt P img₀ bytes s a) img₀ img′
   unfolding onIn valAt

@@ -12,9 +12,9 @@ use Rattle.systems.specs.Matrix.{ent}
 use Rattle.parity.specs.Group.{rebuilt}
 use Rattle.parity.specs.Restores.{lost-most}
 use Rattle.parity.specs.Rows.{rowOf, row-gives}
+use Rattle.parity.specs.Local.{slot-there}
 use Rattle.plan.specs.declared.Plan.{Plan}
 use Rattle.plan.specs.Plans.{linesOf, missOf, Right}
-use Rattle.plan.specs.Same.{slot-in}
 
 module _ (P : Plan) (r : Right P) where
   -- a missing content's place among them
@@ -31,7 +31,7 @@ module _ (P : Plan) (r : Right P) where
 
   -- the unit of a slot is a content
   pub slot-lt : (j : ℕ) → j < P .n → getD (P .slots) j 0 < P .n + P .k
-  slot-lt j h = subst⁻¹ (λ (x : ℕ). x < P .n + P .k) (r .slots-are j h) (slot-in (P .n) (P .k) (missOf P) (r .solvable) j h)
+  slot-lt j h = subst⁻¹ (λ (x : ℕ). x < P .n + P .k) (r .slots-are j h) (slot-there (P .n) (P .k) (missOf P) (r .solvable) j h .1)
 
   -- a missing content is the sum of its row over the slots
   pub row-holds : (old : ℕ → ℕ) (c : ℕ) → c < P .n + P .k → missOf P c ≡ true

@@ -1,33 +1,28 @@
--- What is rebuilt hangs on the group's own units alone: on which of them are missing, and on what they hold.
-use mathlib.Core.Path.{_≡_, refl, sym, ap, ap₂, _∙_, subst⁻¹}
-use mathlib.Core.Bool.{Bool, true, false, not}
-use mathlib.Core.Logic.{⊎-elim}
+-- Which units are missing counts below the number of contents only: flags that agree there rebuild alike.
+use mathlib.Core.Path.{_≡_, refl, ap, ap₂, _∙_}
+use mathlib.Core.Bool.{Bool, not}
 use mathlib.Core.List.{List, [], _∷_, _++_}
 use Prim.Native.Nat.{ℕ, zero, suc, _+_, _<_}
 use native.Mathlib.Nat.{le-trans, le-refl, le-suc, le-add-right}
 use native.Mathlib.Omega.{arith}
 use lib.Dec.{ltb}
 use lib.ListN.{length, getD}
-use Rattle.lists.specs.Pick.{pick, pick-true, pick-false, either-way}
+use Rattle.lists.specs.Pick.{pick}
 use Rattle.lists.specs.Count.{count, count-same}
-use Rattle.lists.specs.Those.{those, those-place}
+use Rattle.lists.specs.Those.{those}
 use Rattle.field.specs.Byte.{_⊕_, mul}
 use Rattle.field.specs.Sum.{sumTo, sum-cong}
 use Rattle.systems.specs.Coef.{coef}
 use Rattle.systems.specs.Cramer.{sol, row}
 use Rattle.systems.specs.System.{sys}
-use Rattle.parity.specs.Group.{Solvable, lost, there, equations, left, known, dataOf, rebuilt}
+use Rattle.parity.specs.Group.{lost, there, equations, left, known, dataOf, rebuilt}
 use Rattle.parity.specs.Content.{content-cong}
-use Rattle.parity.specs.Restores.{lost-most, there-lt, there-in}
-use Rattle.parity.specs.Rows.{slot, rowOf, row-gives}
 
 pub those-same : (f g : ℕ → Bool) (n : ℕ) → ((k : ℕ) → k < n → f k ≡ g k) → those f n ≡ those g n
 unfolding those
 those-same f g zero e = refl
 those-same f g (suc n) e =
     ap₂ (λ (t : Bool) (l : List ℕ). pick t (l ++ n ∷ []) l) (e n (le-refl (suc n))) (those-same f g n (λ k h. e k (le-trans h (le-suc n))))
-
--- ---- which are missing
 
 module _ (n k : ℕ) (miss other : ℕ → Bool) (e : (c : ℕ) → c < n + k → miss c ≡ other c) (old : ℕ → ℕ) where
   below : (j : ℕ) → j < n → miss j ≡ other j
@@ -66,38 +61,3 @@ module _ (n k : ℕ) (miss other : ℕ → Bool) (e : (c : ℕ) → c < n + k �
   unfolding rebuilt
   missing-same c h =
       ap₂ (λ (t : Bool) (x : ℕ). pick t x (old c)) (e c h) (content-cong n (dataOf n k miss old) (dataOf n k other old) data-same c)
-
--- ---- what they hold
-
-module _ (n k : ℕ) (miss : ℕ → Bool) (s : Solvable n k miss) where
-  -- the unit of a slot is a unit of the group
-  pub slot-in : (j : ℕ) → j < n → slot n k miss j < n + k
-  unfolding slot
-  slot-in j h =
-      ⊎-elim
-      (λ (t : miss j ≡ true).
-      subst⁻¹ (λ (x : ℕ). x < n + k) (pick-true (miss j) _ j t) (there-lt n k miss s (count miss j) (those-place miss n j h t .0)))
-      (λ (t : miss j ≡ false). subst⁻¹ (λ (x : ℕ). x < n + k) (pick-false (miss j) _ j t) (omega arith)) (either-way (miss j))
-
-  -- and it is there
-  pub slot-there : (j : ℕ) → j < n → miss (slot n k miss j) ≡ false
-  unfolding slot
-  slot-there j h =
-      ⊎-elim
-      (λ (t : miss j ≡ true). ap miss (pick-true (miss j) _ j t) ∙ there-in n k miss s (count miss j) (those-place miss n j h t .0))
-      (λ (t : miss j ≡ false). ap miss (pick-false (miss j) _ j t) ∙ t) (either-way (miss j))
-
-  kept : (d : ℕ → ℕ) (c : ℕ) → miss c ≡ false → rebuilt n k miss d c ≡ d c
-  unfolding rebuilt
-  kept d c t = pick-false (miss c) _ (d c) t
-
-  -- bytes of missing units do not count
-  pub rebuilt-same : (old new : ℕ → ℕ) → ((c : ℕ) → c < n + k → miss c ≡ false → old c ≡ new c) → (c : ℕ) → c < n + k
-      → rebuilt n k miss old c ≡ rebuilt n k miss new c
-  rebuilt-same old new e c h =
-      ⊎-elim
-      (λ (t : miss c ≡ true).
-      row-gives n k miss (lost-most n k miss s) old c t
-      ∙ sum-cong n _ _ (λ j l. ap (mul (rowOf n k miss c j)) (e (slot n k miss j) (slot-in j l) (slot-there j l)))
-      ∙ sym (row-gives n k miss (lost-most n k miss s) new c t))
-      (λ (t : miss c ≡ false). kept old c t ∙ e c h t ∙ sym (kept new c t)) (either-way (miss c))
