@@ -1,16 +1,16 @@
 -- A call's own tests come after those that every call makes.
-use mathlib.Core.Path.{_≡_, sym, ap, _∙_}
+use mathlib.Core.Path.{_≡_, sym, _∙_}
 use mathlib.Core.Bool.{Bool, true, false}
-use mathlib.Core.List.{List, [], _∷_}
+use mathlib.Core.List.{List, []}
 use Prim.Native.Nat.{ℕ, _-_, _≤_, _<_}
-use lib.Dec.{eqb, ltb, leb}
+use lib.Dec.{eqb}
 use borrow.Author.Tests.{eq-eqb, ne-eqb, lt-ltb, le-ltb, le-leb, lt-leb}
 use Rattle.lists.specs.Refusal.{_orElse_, refusalBy, orElse-left, orElse-right, refusal-append, step-passes}
 use Rattle.numbers.specs.declared.Layout.{Layout}
 use Rattle.numbers.specs.Layouts.{Valid, contents, allGroups, capacity, imageLength}
 use Rattle.numbers.specs.Refused.{validb, valid-true}
 use Rattle.homes.specs.declared.Record.{Record}
-use Rattle.homes.specs.Records.{failed, recordGood, recordRefusal}
+use Rattle.homes.specs.Records.{failed, recordRefusal}
 use Rattle.pool.specs.Refusals.{poolTests, rangeTests, failTests, lookTests, repairRefusal}
 
 module _ (y : Layout) (R : Record) (len : ℕ) where

@@ -1,5 +1,5 @@
 -- The bytes of a group's data are those of the file from the group's first byte on.
-use mathlib.Core.Path.{_≡_, refl, sym, ap, ap₂, subst, subst⁻¹, _∙_}
+use mathlib.Core.Path.{_≡_, refl, sym, ap, subst, _∙_}
 use mathlib.Core.List.{List}
 use Prim.Native.Nat.{ℕ, _+_, _*_, _/_, _%_, _≤_, _<_}
 use native.Mathlib.Nat.{mul-comm, mul-assoc, mul-left-comm, mul-le-mul-right, mul-le-mul, mul-pos, add-mul, one-mul, div-mul-le-self}
@@ -10,7 +10,7 @@ use Rattle.lists.specs.Pick.{pick, below-or-not}
 use Rattle.lists.specs.Tabulate.{length-tabulate}
 use Rattle.lists.specs.Digits.{div-of, mod-of, div-below}
 use Rattle.numbers.specs.declared.Layout.{Layout}
-use Rattle.numbers.specs.Layouts.{Valid, groups, contents, allGroups, capacity}
+use Rattle.numbers.specs.Layouts.{Valid, groups, allGroups, capacity}
 use Rattle.numbers.specs.Shapes.{layout-products}
 use Rattle.place.specs.Bytes.{groupOf, unitIn, byteIn}
 use Rattle.homes.specs.declared.Record.{Record}

@@ -1,3 +1,4 @@
 pub mod Starts
 pub mod Surveyed
+pub mod Placing
 pub mod Steps

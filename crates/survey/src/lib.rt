@@ -60,7 +60,7 @@ fn stand_of(y: Layout, s: Shape, r: Record, to: &[u8; 64], g: u64) -> Stand
 }
 
 // Where a group's contents begin once the whole list is repaired.
-fn new_starts(y: Layout, s: Shape, r: Record, to: &[u8; 64], g: u64) -> [usize; 19]
+pub fn new_starts(y: Layout, s: Shape, r: Record, to: &[u8; 64], g: u64) -> [usize; 19]
     requires { ⌜ Good y r × InTile y s (now to) g ⌝ }
     ensures { λ x. ⌜ StartsUnder y r (r .k) g x ⌝ }
 {

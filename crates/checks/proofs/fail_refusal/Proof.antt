@@ -1,6 +1,6 @@
 -- `checks::fail_refusal` meets its contract: what every call tests first, then the target's three tests.
 use mathlib.Core.Path.{_≡_, sym, _∙_}
-use Prim.Native.Nat.{ℕ, _-_, _≤_, _<_}
+use Prim.Native.Nat.{ℕ, _-_}
 use native.Mathlib.Omega.{arith}
 use borrow.Author.Needs.{needs}
 use Rattle.lists.specs.Refusal.{refusalBy}

@@ -1,10 +1,9 @@
 -- `checks::look_refusal` meets its contract: what every call tests first, then the group's, the content's and the scratch's tests.
 use mathlib.Core.Path.{_≡_, sym, _∙_}
-use Prim.Native.Nat.{ℕ, _-_, _≤_, _<_}
+use Prim.Native.Nat.{ℕ, _-_}
 use native.Mathlib.Omega.{arith}
 use borrow.Author.Needs.{needs}
 use Rattle.lists.specs.Refusal.{refusalBy}
-use Rattle.numbers.specs.Layouts.{contents, allGroups}
 use Rattle.pool.specs.Refusals.{lookTests, lookRefusal}
 use Rattle.checks.specs.Tests.{refused-first, passed-first, group-outside, content-outside, wrong-room, right-room}
 use Rattle.pool.specs.Asked.{Sound, repair-asked}

@@ -1,5 +1,5 @@
 -- `checks::pool_refusal` meets its contract: the layout's test, then the image's length, then the record's.
-use mathlib.Core.Path.{_≡_, sym, _∙_}
+use mathlib.Core.Path.{sym, _∙_}
 use borrow.Author.Needs.{needs}
 use Rattle.numbers.specs.Layouts.{Valid}
 use Rattle.numbers.specs.Refused.{bad-layout, good-layout}

@@ -1,10 +1,9 @@
 -- `checks::range_refusal` meets its contract: what every call tests first, then the range's two tests.
 use mathlib.Core.Path.{_≡_, sym, _∙_}
-use Prim.Native.Nat.{ℕ, _-_, _≤_, _<_}
+use Prim.Native.Nat.{ℕ, _-_}
 use native.Mathlib.Omega.{arith}
 use borrow.Author.Needs.{needs}
 use Rattle.lists.specs.Refusal.{refusalBy}
-use Rattle.numbers.specs.Layouts.{capacity}
 use Rattle.pool.specs.Refusals.{rangeTests, rangeRefusal}
 use Rattle.checks.specs.Tests.{refused-first, passed-first, range-beyond, range-long, range-inside}
 use Rattle.pool.specs.Asked.{Sound, repair-asked}

@@ -1,14 +1,12 @@
 -- `pool_fail::fail` meets its contract: the refused record is as it was, the accepted one has an entry more.
-use mathlib.Core.Path.{_≡_, sym, ap, _∙_}
+use mathlib.Core.Path.{sym, ap, _∙_}
 use Prim.Native.Nat.{ℕ, _<_}
 use native.Mathlib.Numerals.{add-one}
 use native.Mathlib.Omega.{arith}
 use borrow.Author.Needs.{needs}
 use lib.ListN.{length, set}
-use Rattle.lists.specs.Refusal.{refused-answer, accepted-answer, grant-no, grant-yes}
-use Rattle.homes.specs.declared.Record.{Record}
+use Rattle.lists.specs.Refusal.{grant-no, grant-yes}
 use Rattle.pool.specs.Asked.{FailAsked, fail-asked}
-use Rattle.pool.specs.Refusals.{failRefusal}
 use Rattle.pool.specs.Failing.{failRecord}
 use Rattle.pool_fail.proofs.fail.Statement.{statement}
 use Rattle.pool_fail.proofs.fail.Tie as tie

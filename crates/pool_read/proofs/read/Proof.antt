@@ -1,5 +1,5 @@
 -- `pool_read::read` meets its contract: refused it leaves zeros, accepted the bytes of the file.
-use mathlib.Core.Path.{_≡_, sym, _∙_}
+use mathlib.Core.Path.{sym, _∙_}
 use borrow.Author.Needs.{needs}
 use Rattle.lists.specs.Refusal.{grant-no, grant-yes}
 use Rattle.pool.specs.Reading.{readOut}

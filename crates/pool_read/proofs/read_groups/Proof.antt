@@ -1,21 +1,15 @@
 -- `pool_read::read_groups` meets its contract. Every byte of the file before the next group's first is read.
-use mathlib.Core.Path.{_≡_, refl, sym, ap, subst, subst⁻¹, _∙_}
-use mathlib.Core.List.{List}
-use Prim.Native.Nat.{ℕ, _+_, _*_, _-_, _/_, _≤_, _<_}
-use native.Mathlib.Nat.{mul-comm, mul-suc, mul-le-mul, div-le-self, mul-pos}
-use native.Mathlib.Numerals.{add-one}
+use mathlib.Core.Path.{_≡_, refl, ap, subst⁻¹, _∙_}
+use Prim.Native.Nat.{ℕ, _+_, _*_, _-_, _/_, _<_}
 use native.Mathlib.Omega.{arith}
-use borrow.Author.Needs.{needs}
 use lib.Dec.{ltb}
 use lib.ListN.{length, getD}
 use Rattle.lists.specs.Pick.{pick}
-use Rattle.numbers.specs.Layouts.{Valid, allGroups, capacity, imageLength}
-use Rattle.homes.specs.Records.{Good}
-use Rattle.pool.specs.Asked.{Sound}
+use Rattle.numbers.specs.Layouts.{Valid, allGroups}
 use Rattle.pool.specs.Contents.{fileByte}
 use Rattle.plan.specs.Plans.{Fits}
-use Rattle.groups.specs.Read.{file-none, file-step, file-done}
-use Rattle.survey.specs.Surveyed.{Surveying, Surveyed, fits}
+use Rattle.groups.specs.Read.{file-none, file-done}
+use Rattle.survey.specs.Surveyed.{Surveying, fits}
 use Rattle.pool_read.specs.Files.{first-byte, group-in, small, read-turn, length-read, next-first}
 use Rattle.pool_read.proofs.read_groups.Statement.{statement}
 use Rattle.pool_read.proofs.read_groups.Tie as tie
