@@ -90,14 +90,6 @@ fn part_for(image: &mut [u8], kind: u64) -> &mut [u8] {
     image
 }
 
-fn stain(buffer: &mut [u8]) {
-    let mut i = 0;
-    while i < buffer.len() {
-        buffer[i] = 170;
-        i += 1;
-    }
-}
-
 fn read_and_write(y: Layout, rec: Record, image: &mut [u8]) {
     let mut five = [170u8; 5];
     let refusal = pool_read::read(y, rec, image, 0, &mut five);
@@ -128,17 +120,22 @@ fn fail_and_repair(y: Layout, rec: Record, image: &mut [u8]) {
 }
 
 fn look(y: Layout, rec: Record, image: &[u8], scratch: &mut [u8]) {
-    stain(scratch);
+    calls::stain(scratch);
     let refusal = pool_look::prepare(y, rec, image, 0, 0, scratch);
     text(b"look");
     number(refusal);
     number(checksum(scratch));
+    show(y, rec, image, scratch);
+    newline();
+}
+
+// The shown part: the refusal and its length.
+fn show<'a>(y: Layout, rec: Record, image: &'a [u8], scratch: &'a [u8]) {
     let mut answer: u64 = 0;
     let shown = pool_look::show(y, rec, image, scratch, 0, 0, &mut answer);
     let length = shown.len() as u64;
     number(answer);
     number(length);
-    newline();
 }
 
 pub fn event(run: Run, image: &mut [u8], buffer: &mut [u8], kind: u64) {

@@ -52,7 +52,8 @@ pub fn entry(rec: Record, i: u64) -> u64 {
     0
 }
 
-fn stain(buffer: &mut [u8]) {
+// What a buffer holds before a call that fills it.
+pub fn stain(buffer: &mut [u8]) {
     let mut i = 0;
     while i < buffer.len() {
         buffer[i] = 170;
@@ -157,7 +158,7 @@ pub fn look(run: Run, image: &[u8], group: u64, content: u64, scratch: &mut [u8]
 }
 
 // The shown part: the refusal, its length and its checksum.
-fn show(run: Run, image: &[u8], group: u64, content: u64, scratch: &[u8]) {
+fn show<'a>(run: Run, image: &'a [u8], group: u64, content: u64, scratch: &'a [u8]) {
     let y = run.y;
     let rec = run.rec;
     let mut answer: u64 = 0;

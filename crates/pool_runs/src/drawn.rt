@@ -120,7 +120,7 @@ pub fn start(run: Run, image: &mut [u8], seed: &mut u64) -> Run {
 
 // ---- ranges
 
-pub struct Range {
+pub struct Extent {
     pub offset: u64,
     pub length: u64,
 }
@@ -163,7 +163,7 @@ fn length(run: Run, left: u64, seed: &mut u64) -> u64 {
     left
 }
 
-pub fn range(run: Run, seed: &mut u64) -> Range {
+pub fn range(run: Run, seed: &mut u64) -> Extent {
     let capacity = run.numbers.capacity;
     let at = offset(capacity, seed);
     let mut left: u64 = 0;
@@ -176,7 +176,7 @@ pub fn range(run: Run, seed: &mut u64) -> Range {
             size = least(size, left);
         }
     }
-    Range {
+    Extent {
         offset: at,
         length: size,
     }
@@ -198,7 +198,7 @@ pub fn target(run: Run, seed: &mut u64) -> u64 {
     below(seed, run.y.p)
 }
 
-pub struct Look {
+pub struct View {
     pub group: u64,
     pub content: u64,
     pub length: u64,
@@ -237,11 +237,11 @@ fn scratch(u: u64, seed: &mut u64) -> u64 {
     u
 }
 
-pub fn look(run: Run, seed: &mut u64) -> Look {
+pub fn look(run: Run, seed: &mut u64) -> View {
     let g = group(run, seed);
     let c = content(plus(run.y.n, run.y.k), seed);
     let size = scratch(run.y.u, seed);
-    Look {
+    View {
         group: g,
         content: c,
         length: size,

@@ -6,8 +6,6 @@ mod drawn;
 mod fixed;
 
 use calls::Run;
-use drawn::Range;
-use homes::Record;
 use trial::draw;
 use trial::newline;
 use trial::number;

@@ -6,6 +6,7 @@ pub mod codes;
 pub mod examples;
 pub mod hex_pools;
 pub mod layouts;
+pub mod morning;
 pub mod pool_runs;
 pub mod products;
 
@@ -19,7 +20,7 @@ macro_rules! line {
 pub(crate) use line;
 
 /// The programs by name.
-pub const NAMES: [&str; 7] = [
+pub const NAMES: [&str; 8] = [
     "examples",
     "layouts",
     "products",
@@ -27,6 +28,7 @@ pub const NAMES: [&str; 7] = [
     "catalogue_runs",
     "hex_pools",
     "pool_runs",
+    "morning",
 ];
 
 /// The expected output of the program of this name.
@@ -39,6 +41,7 @@ pub fn expected(name: &str) -> Option<String> {
         "catalogue_runs" => Some(catalogue_runs::output()),
         "hex_pools" => Some(hex_pools::output()),
         "pool_runs" => Some(pool_runs::output()),
+        "morning" => Some(morning::output()),
         _ => None,
     }
 }
