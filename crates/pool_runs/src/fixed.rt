@@ -51,20 +51,34 @@ fn at_the_end(run: Run, image: &mut [u8], buffer: &mut [u8]) {
     calls::pool(run, image);
 }
 
-// "Failing target 3 makes two contents missing": looks before and after the repair.
-fn failing(run: Run, image: &mut [u8], buffer: &mut [u8]) {
-    let failed = fail(run, image, 3);
-    look(failed, image, buffer, 2, 0);
-    look(failed, image, buffer, 3, 1);
-    look(failed, image, buffer, 0, 0);
-    read(failed, image, buffer, 0, 16);
-    let mended = repair(failed, image);
-    look(mended, image, buffer, 2, 0);
-    look(mended, image, buffer, 3, 1);
-    let again = fail(mended, image, 3);
+// The looks at the two contents of target 3.
+fn looks(run: Run, image: &[u8], buffer: &mut [u8]) {
+    look(run, image, buffer, 2, 0);
+    look(run, image, buffer, 3, 1);
+}
+
+// Failing target 3 again, then a second target and one that is outside.
+fn failing_more(run: Run, image: &[u8], buffer: &mut [u8]) {
+    let again = fail(run, image, 3);
     let dud = fail(again, image, 0);
     let outside = fail(dud, image, 4);
     read(outside, image, buffer, 0, 16);
+}
+
+// The looks and the read with target 3 failed.
+fn with_a_failure(run: Run, image: &[u8], buffer: &mut [u8]) {
+    looks(run, image, buffer);
+    look(run, image, buffer, 0, 0);
+    read(run, image, buffer, 0, 16);
+}
+
+// "Failing target 3 makes two contents missing": looks before and after the repair.
+fn failing(run: Run, image: &mut [u8], buffer: &mut [u8]) {
+    let failed = fail(run, image, 3);
+    with_a_failure(failed, image, buffer);
+    let mended = repair(failed, image);
+    looks(mended, image, buffer);
+    failing_more(mended, image, buffer);
 }
 
 fn small(space: &mut [u8], buffer: &mut [u8]) {
@@ -86,7 +100,18 @@ fn small(space: &mut [u8], buffer: &mut [u8]) {
     failing(run, image, buffer);
 }
 
-// Lists of two failures: the targets of units v and w of group 0.
+// The targets of units v and w of group 0 fail: looks before and after the repair.
+fn failing_two(run: Run, v: u64, w: u64, image: &mut [u8], buffer: &mut [u8]) {
+    let first = layout::find_place(run.y, 0, v);
+    let second = layout::find_place(run.y, 0, w);
+    let one = fail(run, image, first.target);
+    let two = fail(one, image, second.target);
+    look(two, image, buffer, 0, 0);
+    let mended = repair(two, image);
+    look(mended, image, buffer, 0, 0);
+}
+
+// Lists of two failures.
 fn two_failures(i: u64, v: u64, w: u64, space: &mut [u8], buffer: &mut [u8]) {
     let y = Layout {
         n: 1,
@@ -102,13 +127,7 @@ fn two_failures(i: u64, v: u64, w: u64, space: &mut [u8], buffer: &mut [u8]) {
     calls::head(i, y);
     calls::pool(run, image);
     write_counted(run, image, buffer, 3);
-    let first = layout::find_place(y, 0, v);
-    let second = layout::find_place(y, 0, w);
-    let one = fail(run, image, first.target);
-    let two = fail(one, image, second.target);
-    look(two, image, buffer, 0, 0);
-    let mended = repair(two, image);
-    look(mended, image, buffer, 0, 0);
+    failing_two(run, v, w, image, buffer);
 }
 
 pub fn runs(space: &mut [u8], buffer: &mut [u8]) {

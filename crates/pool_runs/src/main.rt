@@ -81,12 +81,21 @@ fn event(run: Run, image: &mut [u8], buffer: &mut [u8], seed: &mut u64) -> Run {
 
 // ---- runs
 
-fn events(start: Run, image: &mut [u8], buffer: &mut [u8], seed: &mut u64) {
+fn one_event(run: Run, image: &mut [u8], buffer: &mut [u8], seed: &mut u64) -> Run {
+    let after = event(run, image, buffer, seed);
+    calls::pool(after, image);
+    after
+}
+
+fn events(start: Run, image: &mut [u8], buffer: &mut [u8], seed: &mut u64) -> Run {
     let mut run = start;
     for i in 0u64..14 {
-        run = event(run, image, buffer, seed);
-        calls::pool(run, image);
+        run = one_event(run, image, buffer, seed);
     }
+    run
+}
+
+fn read_all(run: Run, image: &[u8], buffer: &mut [u8]) {
     calls::read(run, image, 0, calls::front(buffer, run.numbers.capacity));
     calls::pool(run, image);
 }
@@ -99,7 +108,14 @@ fn drawn_run(i: u64, space: &mut [u8], buffer: &mut [u8], seed: &mut u64) {
     let run = drawn::start(fresh, image, seed);
     calls::head(i, y);
     calls::pool(run, image);
-    events(run, image, buffer, seed);
+    let last = events(run, image, buffer, seed);
+    read_all(last, image, buffer);
+}
+
+fn drawn_runs(space: &mut [u8], buffer: &mut [u8], seed: &mut u64) {
+    for i in 4u64..404 {
+        drawn_run(i, space, buffer, seed);
+    }
 }
 
 fn main() {
@@ -107,7 +123,5 @@ fn main() {
     let mut space = [0u8; 65536];
     let mut buffer = [0u8; 65536];
     fixed::runs(&mut space, &mut buffer);
-    for i in 4u64..404 {
-        drawn_run(i, &mut space, &mut buffer, &mut seed);
-    }
+    drawn_runs(&mut space, &mut buffer, &mut seed);
 }
