@@ -24,6 +24,21 @@ pub struct Layout {
     pub cookie: u64,
 }
 
+/// The six numbers in document 01's order, as the programs print them.
+impl std::fmt::Display for Layout {
+    fn fmt(&self, f: &mut std::fmt::Formatter<'_>) -> std::fmt::Result {
+        let Layout {
+            n,
+            k,
+            p,
+            u,
+            t,
+            cookie,
+        } = self;
+        write!(f, "{n} {k} {p} {u} {t} {cookie}")
+    }
+}
+
 /// What follows from an accepted layout; all zeros for a refused one.
 #[derive(Clone, Copy, Debug, Default, PartialEq, Eq)]
 pub struct Numbers {

@@ -46,16 +46,7 @@ fn pool(out: &mut String, shape: &Layout, image: &[u8]) {
 }
 
 fn pool_line(out: &mut String, shape: &Layout) {
-    line!(
-        out,
-        "pool {} {} {} {} {} {}",
-        shape.n,
-        shape.k,
-        shape.p,
-        shape.u,
-        shape.t,
-        shape.cookie
-    );
+    line!(out, "pool {}", shape);
 }
 
 /// The hex line itself, which brings its own newline.

@@ -110,16 +110,7 @@ fn drawn_layout(draws: &mut Draws) -> Layout {
 }
 
 fn show(out: &mut String, draws: &mut Draws, shape: &Layout) {
-    line!(
-        out,
-        "layout {} {} {} {} {} {}",
-        shape.n,
-        shape.k,
-        shape.p,
-        shape.u,
-        shape.t,
-        shape.cookie
-    );
+    line!(out, "layout {}", shape);
     numbers(out, shape);
     for tile in [0, shape.t / 2, shape.t - 1, shape.t, ONES] {
         tile_lines(out, shape, tile);
@@ -277,16 +268,7 @@ fn walk_line(out: &mut String, shape: &Layout, cursor: Cursor) {
 }
 
 fn bound(out: &mut String, shape: &Layout) {
-    line!(
-        out,
-        "bound {} {} {} {} {} {}",
-        shape.n,
-        shape.k,
-        shape.p,
-        shape.u,
-        shape.t,
-        shape.cookie
-    );
+    line!(out, "bound {}", shape);
     numbers(out, shape);
     tile_lines(out, shape, 0);
     place_line(out, shape, 0, 0);

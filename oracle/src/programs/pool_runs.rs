@@ -186,17 +186,7 @@ impl Run {
             image,
             out: String::new(),
         };
-        line!(
-            run.out,
-            "run {} {} {} {} {} {} {}",
-            index,
-            shape.n,
-            shape.k,
-            shape.p,
-            shape.u,
-            shape.t,
-            shape.cookie
-        );
+        line!(run.out, "run {} {}", index, shape);
         run.pool_line();
         run
     }
