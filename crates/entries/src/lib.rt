@@ -13,6 +13,7 @@ ghost use Rattle.entries.specs.Plans.{answerOf, placed, idleOf, insertio
 ghost use Rattle.entries.specs.Roll.{movedTo};
 
 // A record of the catalogue: the component object of a file on a device.
+#[repr(C)]
 pub struct Entry {
     pub device: u64,
     pub file: u64,
@@ -20,6 +21,7 @@ pub struct Entry {
 }
 
 // What a record is found by. A listing takes one too: the device, and the first file number.
+#[repr(C)]
 pub struct Key {
     pub device: u64,
     pub file: u64,
@@ -214,18 +216,21 @@ pub fn step(x: Look, r: Entry) -> Look
 }
 
 // What a lookup answers: 0 and the cob, or the number of a refusal and 0.
+#[repr(C)]
 pub struct Found {
     pub refusal: u64,
     pub cob: u64,
 }
 
 // What an insertion or a deletion answers: 0 and the new count, or the number of a refusal and the old count.
+#[repr(C)]
 pub struct Changed {
     pub refusal: u64,
     pub count: usize,
 }
 
 // What a listing answers.
+#[repr(C)]
 pub struct Page {
     pub refusal: u64,
     pub count: usize,

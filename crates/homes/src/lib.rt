@@ -14,6 +14,7 @@ ghost use Rattle.homes.specs.Standing.{Units, HomesAre, MissingAre, Targ
 
 // The targets that have failed, in order: the first k entries, of which the first q are repaired.
 // Entries from k on are never read. Any values may stand in it.
+#[repr(C)]
 pub struct Record {
     pub failed: [u64; 3],
     pub k: u64,

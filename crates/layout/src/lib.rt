@@ -12,6 +12,7 @@ ghost use Rattle.layout.specs.Walk.{walkRefusal, stepOf};
 
 // ---- the numbers
 
+#[repr(C)]
 pub struct Measured {
     pub refusal: u64,
     pub numbers: Numbers,
@@ -50,6 +51,7 @@ pub fn measure(y: Layout) -> Measured
 
 // ---- the permutation of a tile
 
+#[repr(C)]
 pub struct Entries {
     pub refusal: u64,
     pub entries: [u8; 64],
@@ -106,6 +108,7 @@ pub fn tile_inverse(y: Layout, tile: u64) -> Entries
 // ---- places
 
 // A unit's place, and the image byte at which the unit begins.
+#[repr(C)]
 pub struct Placed {
     pub refusal: u64,
     pub frame: u64,
@@ -156,6 +159,7 @@ pub fn find_place(y: Layout, group: u64, unit: u64) -> Placed
 }
 
 // The unit that lies at a place.
+#[repr(C)]
 pub struct Held {
     pub refusal: u64,
     pub group: u64,
@@ -204,6 +208,7 @@ pub fn find_unit(y: Layout, frame: u64, target: u64) -> Held
 // ---- file offsets
 
 // A file offset's group, unit and byte in the unit, and its image byte while nothing has failed.
+#[repr(C)]
 pub struct Mapped {
     pub refusal: u64,
     pub group: u64,
@@ -260,6 +265,7 @@ pub fn map_offset(y: Layout, offset: u64) -> Mapped
 
 // ---- the walk over one target
 
+#[repr(C)]
 pub struct Cursor {
     pub target: u64,
     pub frame: u64,

@@ -7,6 +7,7 @@ ghost use Rattle.numbers.specs.Answers.{Shaped, Numbered};
 
 // Document 01's six numbers: N data units and K parity units a group (with K spares), P targets,
 // U bytes a unit, T tiles, and the cookie that the permutations start from.
+#[repr(C)]
 pub struct Layout {
     pub n: u64,
     pub k: u64,
@@ -25,6 +26,7 @@ pub struct Shape {
 }
 
 // All the numbers that follow from a layout.
+#[repr(C)]
 pub struct Numbers {
     pub w: u64,
     pub b: u64,

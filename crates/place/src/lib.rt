@@ -16,6 +16,7 @@ pub struct Place {
 }
 
 // A unit of a group.
+#[repr(C)]
 pub struct Unit {
     pub group: u64,
     pub unit: u64,

@@ -3,6 +3,7 @@ use homes::Record;
 use numbers::Layout;
 ghost use Rattle.pool.specs.Calls.{Fails};
 
+#[repr(C)]
 pub struct Failed {
     pub refusal: u64,
     pub rec: Record,

@@ -2,12 +2,14 @@
 use homes::Record;
 use numbers::Layout;
 use plan::Plan;
+ghost use mathlib.Core.Path.{_≡_};
 ghost use lib.ListN.{length};
 ghost use Prim.Native.Nat.{_<_};
 ghost use Rattle.numbers.specs.Layouts.{allGroups};
 ghost use Rattle.pool.specs.Asked.{Sound};
 ghost use Rattle.pool.specs.Calls.{Prepares, Shows};
 ghost use Rattle.survey.specs.Surveyed.{Surveyed};
+ghost use Rattle.pool_look.specs.Shown.{shownAt};
 
 // The plan of one group.
 fn plan_at(y: Layout, r: Record, len: usize, group: u64) -> Plan
@@ -46,6 +48,51 @@ pub fn prepare(
     0
 }
 
+// Where the second step finds the unit: in the scratch where it is missing, else in the image. A
+// refused look has an empty part.
+#[repr(C)]
+pub struct Shown {
+    pub refusal: u64,
+    pub missing: bool,
+    pub begins: usize,
+    pub length: usize,
+}
+
+// The second step for callers who take no reference back; `image` and `scratch` are their lengths.
+pub fn locate(y: Layout, r: Record, image: usize, scratch: usize, group: u64, content: u64) -> Shown
+    ensures { λ x. ⌜ x ≡ shownAt y r image scratch group content ⌝ }
+{
+    let refusal = checks::look_refusal(y, r, image, scratch, group, content);
+    if refusal != 0 {
+        return Shown {
+            refusal,
+            missing: false,
+            begins: 0,
+            length: 0,
+        };
+    }
+    let plan = plan_at(y, r, image, group);
+    let missing = plan.missing;
+    let at = plan.at;
+    let length = plan.u;
+    let c = content as usize;
+    if missing[c] {
+        return Shown {
+            refusal: 0,
+            missing: true,
+            begins: 0,
+            length,
+        };
+    }
+    let begins = at[c];
+    Shown {
+        refusal: 0,
+        missing: false,
+        begins,
+        length,
+    }
+}
+
 // Shows the unit: a part of the image, or the scratch where the content is missing; nothing where
 // refused. The refusal number goes into the lent answer.
 pub fn show<'a>(
@@ -59,19 +106,12 @@ pub fn show<'a>(
 ) -> &'a [u8]
     ensures { λ shown. ⌜ Shows y r (now (image .entry)) (now (scratch .entry)) group content (now (answer .exit)) (now shown) ⌝ }
 {
-    let refusal = checks::look_refusal(y, r, image.len(), scratch.len(), group, content);
-    *answer = refusal;
-    if refusal != 0 {
-        return &image[..0];
-    }
-    let plan = plan_at(y, r, image.len(), group);
-    let missing = plan.missing;
-    let c = content as usize;
-    if missing[c] {
+    let x = locate(y, r, image.len(), scratch.len(), group, content);
+    *answer = x.refusal;
+    if x.missing {
         return scratch;
     }
-    let at = plan.at;
-    let from = at[c];
-    let end = from + plan.u;
+    let from = x.begins;
+    let end = from + x.length;
     &image[from..end]
 }

@@ -14,6 +14,7 @@ ghost use Rattle.pool.specs.Calls.{Repairs};
 ghost use Rattle.pool.specs.Repairing.{mendedImage};
 ghost use Rattle.pool_repair.specs.Mending.{InHand, Mended, missingPairs};
 
+#[repr(C)]
 pub struct Repaired {
     pub refusal: u64,
     pub count: u64,

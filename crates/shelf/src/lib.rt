@@ -10,6 +10,7 @@ use entries::Key;
 use entries::Page;
 
 // The slots after a change, and its answer.
+#[repr(C)]
 pub struct Shelf {
     pub slots: [Entry; 8],
     pub refusal: u64,

@@ -1,0 +1,244 @@
+/*
+ * Splicebell: a proved storage pool for rows of bag-drop kiosks, called from C.
+ *
+ * Every call takes any numbers and any lengths, tests everything itself and answers the lowest refusal
+ * number that applies; 0 is accepted. After a refusal an output buffer (read, listing, prepare, hex line)
+ * is all zeros, returned numbers are 0 unless stated, and nothing else that was lent has changed.
+ *
+ * What a caller owes, since C cannot be asked: a pointer with a length leads to that many elements, aligned
+ * for their type, also where the length is 0 (not NULL); a buffer that a call may change overlaps no other
+ * buffer of that call; no other thread touches them meanwhile. docs/ABI.md has the whole of it.
+ *
+ * C11, no dependencies. The archive is built by `rt staticlib abi`, for x86-64 Linux.
+ */
+#ifndef SPLICEBELL_H
+#define SPLICEBELL_H
+
+#include <stdbool.h>
+#include <stddef.h>
+#include <stdint.h>
+
+#ifdef __cplusplus
+extern "C" {
+#endif
+
+/* Why a call was refused. Where several apply, the lowest is given. */
+enum splicebell_refusal {
+    SPLICEBELL_ACCEPTED = 0,
+    SPLICEBELL_BAD_LAYOUT = 1,         /* a layout number outside its bounds */
+    SPLICEBELL_BAD_IMAGE_LENGTH = 2,   /* the image is not of its exact length */
+    SPLICEBELL_BAD_RECORD = 3,         /* the failure record is bad */
+    SPLICEBELL_OUTSIDE = 4,            /* tile, group, unit, frame, target, offset or range outside */
+    SPLICEBELL_BAD_BUFFER_LENGTH = 5,  /* a unit, group, scratch or line buffer not of its exact length */
+    SPLICEBELL_ALREADY_FAILED = 6,     /* the target has failed already */
+    SPLICEBELL_DUD = 7,                /* K targets have failed already */
+    SPLICEBELL_TOO_MANY_MISSING = 8,   /* more than K units named missing */
+    SPLICEBELL_BAD_CATALOGUE = 9,      /* count above the slice, or keys not strictly rising */
+    SPLICEBELL_CATALOGUE_FULL = 10,    /* no free slot, and the key is new */
+    SPLICEBELL_NO_SUCH_RECORD = 11     /* no record of that key, or none that matches in all three */
+};
+
+/* N data, K parity and K spare units a group, P targets, U bytes a unit, T tiles, the permutations' cookie. */
+typedef struct splicebell_layout {
+    uint64_t n, k, p, u, t, cookie;
+} splicebell_layout;
+
+/* The first k entries are the failed targets, in order; the first q of them have been repaired. */
+typedef struct splicebell_record {
+    uint64_t failed[3];
+    uint64_t k, q;
+} splicebell_record;
+
+/* W = N+2K units a group, B = lcm(W, P), L rows and C groups a tile, frames of a target, groups, bytes of
+ * the file, bytes of the image. */
+typedef struct splicebell_numbers {
+    uint64_t w, b, l, c, frames, groups, capacity, image;
+} splicebell_numbers;
+
+typedef struct splicebell_measured {
+    uint64_t refusal;
+    splicebell_numbers numbers;
+} splicebell_measured;
+
+typedef struct splicebell_entries {
+    uint64_t refusal;
+    uint8_t entries[64];
+} splicebell_entries;
+
+typedef struct splicebell_placed {
+    uint64_t refusal, frame, target, begins;
+} splicebell_placed;
+
+typedef struct splicebell_held {
+    uint64_t refusal, group, unit;
+} splicebell_held;
+
+typedef struct splicebell_mapped {
+    uint64_t refusal, group, unit, byte, image;
+} splicebell_mapped;
+
+typedef struct splicebell_unit {
+    uint64_t group, unit;
+} splicebell_unit;
+
+typedef struct splicebell_cursor {
+    uint64_t target, frame;
+} splicebell_cursor;
+
+typedef struct splicebell_walked {
+    uint64_t refusal;
+    bool done;
+    splicebell_unit held;
+    splicebell_cursor next;
+} splicebell_walked;
+
+typedef struct splicebell_failed {
+    uint64_t refusal;
+    splicebell_record record;
+} splicebell_failed;
+
+typedef struct splicebell_repaired {
+    uint64_t refusal, count;
+    splicebell_record record;
+} splicebell_repaired;
+
+/* Where a unit is shown: in the scratch where it is missing, else in the image. */
+typedef struct splicebell_shown {
+    uint64_t refusal;
+    bool missing;
+    size_t begins, length;
+} splicebell_shown;
+
+typedef struct splicebell_entry {
+    uint64_t device, file, cob;
+} splicebell_entry;
+
+typedef struct splicebell_key {
+    uint64_t device, file;
+} splicebell_key;
+
+typedef struct splicebell_found {
+    uint64_t refusal, cob;
+} splicebell_found;
+
+typedef struct splicebell_changed {
+    uint64_t refusal;
+    size_t count;
+} splicebell_changed;
+
+typedef struct splicebell_page {
+    uint64_t refusal;
+    size_t count;
+    bool more;
+    uint64_t next;
+} splicebell_page;
+
+/* ---- layout numbers, permutation, places, offsets, walk: nothing is lent */
+
+/* All numbers that follow from a layout.
+ * Refusals: 1. */
+splicebell_measured splicebell_measure(splicebell_layout y);
+
+/* Entry t is the target of column t of a tile; entries from P on hold their own index.
+ * Refusals: 1, 4 (tile >= T). */
+splicebell_entries splicebell_tile_permutation(splicebell_layout y, uint64_t tile);
+
+/* Entry t is the column of target t of a tile: what undoes the permutation.
+ * Refusals: 1, 4 (tile >= T). */
+splicebell_entries splicebell_tile_inverse(splicebell_layout y, uint64_t tile);
+
+/* The frame and target of a unit, and the byte of the image at which it begins.
+ * Refusals: 1, 4 (group or unit outside). */
+splicebell_placed splicebell_find_place(splicebell_layout y, uint64_t group, uint64_t unit);
+
+/* The group and unit that lie at a frame of a target: what undoes find_place.
+ * Refusals: 1, 4 (frame or target outside). */
+splicebell_held splicebell_find_unit(splicebell_layout y, uint64_t frame, uint64_t target);
+
+/* A file offset's group, unit and byte in the unit, and its byte of the image while nothing has failed.
+ * Refusals: 1, 4 (offset >= capacity). */
+splicebell_mapped splicebell_map_offset(splicebell_layout y, uint64_t offset);
+
+/* The unit at the cursor and the next cursor; at frame L*T done. Done or refused, the cursor comes back.
+ * Refusals: 1, 4 (target >= P or frame > L*T). */
+splicebell_walked splicebell_step(splicebell_layout y, splicebell_cursor at);
+
+/* ---- one group in a buffer of (N+K)*U bytes: both answer the refusal number */
+
+/* Sets the K parity units of the buffer from its N data units; every other byte stays.
+ * Refusals: 1, 5 (len). Refused: no byte changes. */
+uint64_t splicebell_encode(splicebell_layout y, uint8_t *buf, size_t len);
+
+/* Fills the named units from the N lowest others; every other byte stays. A unit named twice counts once.
+ * Refusals: 1, 4 (a unit >= N+K), 5 (len), 8. Refused: no byte changes. */
+uint64_t splicebell_rebuild(splicebell_layout y, const uint64_t *missing, size_t missing_count,
+                            uint8_t *buf, size_t len);
+
+/* ---- the pool: every call tests the layout (1), the image's length (2), the record (3), then its own */
+
+/* The record with one failed target more; the image is lent for its length alone.
+ * Refusals: 1, 2, 3, 4 (target >= P), 6, 7. Refused: the record as it was. */
+splicebell_failed splicebell_fail(splicebell_layout y, splicebell_record r, const uint8_t *image,
+                                  size_t image_len, uint64_t target);
+
+/* The bytes of the file from offset on, missing contents rebuilt. The image is only read.
+ * Refusals: 1, 2, 3, 4 (range). Refused: out is all zeros. */
+uint64_t splicebell_read(splicebell_layout y, splicebell_record r, const uint8_t *image, size_t image_len,
+                         uint64_t offset, uint8_t *out, size_t out_len);
+
+/* Stores bytes at a file offset: those bytes and the parity bytes at their unit offsets change, no other.
+ * Refusals: 1, 2, 3, 4 (range). Refused: the image is unchanged. */
+uint64_t splicebell_write(splicebell_layout y, splicebell_record r, uint8_t *image, size_t image_len,
+                          uint64_t offset, const uint8_t *bytes, size_t bytes_len);
+
+/* Stores every missing content at its new home; answers how many there were, and the record with q = k.
+ * Refusals: 1, 2, 3. Refused: image and record are unchanged. */
+splicebell_repaired splicebell_repair(splicebell_layout y, splicebell_record r, uint8_t *image,
+                                      size_t image_len);
+
+/* A look's first step: the scratch of U bytes becomes the rebuilt unit if it is missing, else zeros.
+ * Refusals: 1, 2, 3, 4 (group or content), 5 (scratch). Refused: the scratch is all zeros. */
+uint64_t splicebell_prepare(splicebell_layout y, splicebell_record r, const uint8_t *image,
+                            size_t image_len, uint64_t group, uint64_t content, uint8_t *scratch,
+                            size_t scratch_len);
+
+/* A look's second step: where the unit is shown, in the scratch where it is missing, else in the image.
+ * Refusals: as prepare. Refused: an empty part. Image and scratch are lent for their lengths alone. */
+splicebell_shown splicebell_show(splicebell_layout y, splicebell_record r, const uint8_t *image,
+                                 size_t image_len, const uint8_t *scratch, size_t scratch_len,
+                                 uint64_t group, uint64_t content);
+
+/* ---- the catalogue: slots records are lent, the first n of them are in use, strictly rising by key */
+
+/* The cob of a key.
+ * Refusals: 9, 11. */
+splicebell_found splicebell_lookup(const splicebell_entry *slots, size_t slot_count, size_t n,
+                                   splicebell_key key);
+
+/* Replaces the cob of an equal key, else opens a slot in order; answers the new count.
+ * Refusals: 9, 10. Refused: slots and count as they were. */
+splicebell_changed splicebell_insert(splicebell_entry *slots, size_t slot_count, size_t n,
+                                     splicebell_entry record);
+
+/* Takes out the record that matches in all three; the slot freed at the end becomes zeros.
+ * Refusals: 9, 11. Refused: slots and count as they were. */
+splicebell_changed splicebell_delete(splicebell_entry *slots, size_t slot_count, size_t n,
+                                     splicebell_entry record);
+
+/* The cobs of a device from file key.file on, as many as fit; whether more remain, and the next file.
+ * Refusals: 9. Refused: out is all zeros. The rest of out stays. */
+splicebell_page splicebell_listing(const splicebell_entry *slots, size_t slot_count, size_t n,
+                                   splicebell_key key, uint64_t *out, size_t out_len);
+
+/* ---- the hex line */
+
+/* Target, frame and the frame's bytes in hex, 11+2U bytes with the newline. The image is only read.
+ * Refusals: 1, 2, 4 (target or frame), 5 (line). Refused: the line is all zeros. */
+uint64_t splicebell_hex_line(splicebell_layout y, const uint8_t *image, size_t image_len, uint64_t target,
+                             uint64_t frame, uint8_t *line, size_t line_len);
+
+#ifdef __cplusplus
+}
+#endif
+
+#endif

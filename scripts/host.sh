@@ -1,0 +1,24 @@
+# Sourced by every command that links the archive, which holds code for x86-64 Linux. Sets CC and runner, and
+# for cargo the target, its linker and its runner. On an x86-64 machine: cc, no runner. On any other: a cross
+# compiler, a Rust standard library for x86-64 and the emulator qemu-x86_64 (docs/ABI.md says how to get them).
+if [ "$(uname -m)" = x86_64 ]; then
+    CC=${CC:-cc}
+    runner=
+else
+    CC=${CC:-x86_64-linux-gnu-gcc}
+    runner=qemu-x86_64
+    for needed in "$CC" qemu-x86_64; do
+        command -v "$needed" >/dev/null || { echo "this machine is $(uname -m), not x86-64, and $needed is not there: docs/ABI.md" >&2; exit 2; }
+    done
+    for RUSTC in "${RUSTC:-rustc}" /usr/bin/rustc; do
+        [ -d "$("$RUSTC" --print sysroot)/lib/rustlib/x86_64-unknown-linux-gnu" ] && break
+        RUSTC=
+    done
+    [ -n "$RUSTC" ] || { echo "no rustc here has the standard library of x86_64-unknown-linux-gnu: docs/ABI.md" >&2; exit 2; }
+    RUSTDOC=$(dirname "$(command -v "$RUSTC")")/rustdoc
+    CARGO_BUILD_TARGET=x86_64-unknown-linux-gnu
+    CARGO_TARGET_X86_64_UNKNOWN_LINUX_GNU_LINKER=$CC
+    CARGO_TARGET_X86_64_UNKNOWN_LINUX_GNU_RUNNER=$runner
+    export RUSTC RUSTDOC CARGO_BUILD_TARGET CARGO_TARGET_X86_64_UNKNOWN_LINUX_GNU_LINKER CARGO_TARGET_X86_64_UNKNOWN_LINUX_GNU_RUNNER
+fi
+export CC runner
