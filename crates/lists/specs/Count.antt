@@ -102,6 +102,13 @@ unfolding count
 count-none f zero h = refl
 count-none f (suc n) h = (λ i. count-none f n (λ k b. h k (omega arith)) i + bit (h n (le-refl (suc n)) i))
 
+pub count-zero : (f : ℕ → Bool) (n : ℕ) → count f n ≡ 0 → (k : ℕ) → k < n → f k ≡ false
+count-zero f n e k h = off (f k) (omega (arith, count-mono f (k + 1) n (omega arith), count-next f k))
+  where
+    off : (b : Bool) → bit b ≡ 0 → b ≡ false
+    off false z = refl
+    off true z = absurd (omega arith)
+
 pub count-all : (f : ℕ → Bool) (n : ℕ) → ((k : ℕ) → k < n → f k ≡ true) → count f n ≡ n
 unfolding count
 count-all f zero h = refl

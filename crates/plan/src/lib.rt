@@ -3,9 +3,10 @@
 ghost use mathlib.Core.Path.{_≡_};
 ghost use mathlib.Core.Bool.{true, not};
 ghost use mathlib.Core.List.{[]};
-ghost use Prim.Native.Nat.{ℕ, _<_, _≤_};
-ghost use lib.ListN.{getD};
+ghost use Prim.Native.Nat.{ℕ, _+_, _<_, _≤_};
+ghost use lib.ListN.{length, getD};
 ghost use Rattle.lists.specs.Count.{count};
+ghost use Rattle.lists.specs.Those.{those};
 ghost use Rattle.lists.specs.Pick.{pick, bit};
 ghost use Rattle.parity.specs.Matrix.{flag, RowsFor};
 ghost use Rattle.parity.specs.Group.{Solvable};
@@ -91,11 +92,18 @@ fn same_flags(a: [bool; 19], b: [bool; 19], m: usize) -> bool
     true
 }
 
-// The rows of a set of missing contents.
-fn lines_for(miss: [bool; 19], n: usize, k: usize) -> Lines
-    requires { ⌜ Solvable n k (flag miss) ⌝ }
+// The rows of a set of `gone` missing contents. Where nothing is missing, as mostly, none is read.
+fn lines_for(miss: [bool; 19], n: usize, k: usize, gone: usize) -> Lines
+    requires { ⌜ Solvable n k (flag miss) × (gone ≡ length (those (flag miss) (n + k))) ⌝ }
     ensures { λ r. ⌜ RowsFor n k (flag miss) (linesOf r) ⌝ }
 {
+    if gone == 0 {
+        return Lines {
+            first: [0u8; 16],
+            second: [0u8; 16],
+            third: [0u8; 16],
+        };
+    }
     let rows = parity::rows(miss, n, k);
     let first = rows[0];
     let second = rows[1];
@@ -136,7 +144,7 @@ fn plan_anew(
     let gone = parity::missing_below(missing, n + k);
     let rank = ranks(missing, n + k);
     let slots = parity::slots(missing, n, k);
-    let rows = lines_for(missing, n, k);
+    let rows = lines_for(missing, n, k, gone.count);
     Plan {
         n: n,
         k: k,

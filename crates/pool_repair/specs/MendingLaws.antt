@@ -5,9 +5,9 @@ use Prim.Native.Nat.{ℕ, _+_, _≤_, _<_}
 use native.Mathlib.Numerals.{add-one}
 use native.Mathlib.Omega.{arith}
 use lib.ListN.{length, getD}
-use Rattle.lists.specs.Pick.{pick}
+use Rattle.lists.specs.Pick.{pick, pick-false}
 use Rattle.lists.specs.Tabulate.{at}
-use Rattle.lists.specs.Count.{count, sum, count-same, sum-next}
+use Rattle.lists.specs.Count.{count, sum, count-same, count-zero, sum-next}
 use Rattle.lists.specs.Refusal.{grant-yes, grant-no}
 use Rattle.numbers.specs.declared.Layout.{Layout}
 use Rattle.numbers.specs.Layouts.{Valid, contents, allGroups, imageLength}
@@ -108,6 +108,15 @@ module _ (y : Layout) (v : Valid y) (R : Record) (good : Good y R) (g : ℕ) (P 
   -- how many are missing
   pub gone-here : P .gone ≡ count (missing y R g) (contents y)
   gone-here = s .right .gone-is ∙ (λ i. count (missOf P) (s .n-is i + s .k-is i)) ∙ count-same (missOf P) (missing y R g) (contents y) (s .flags-are)
+
+  -- where none is, the group is as it should be
+  pub nothing-to-mend : P .gone ≡ 0 → (img : List ℕ) → Mended y R g img img
+  nothing-to-mend e img =
+      record {
+        same-length = refl;
+        homes = λ o c ho hc. sym (pick-false (missing y R g c) _ _ (count-zero (missing y R g) (contents y) (sym gone-here ∙ e) c hc));
+        others = λ x h w. refl;
+      }
 
   pub few-gone : P .gone ≤ 3
   few-gone = omega (arith, gone-here, few-missing y v R g good, v .few-parity)

@@ -6,9 +6,7 @@ use numbers::Shape;
 use survey::Survey;
 ghost use mathlib.Core.Path.{_≡_};
 ghost use lib.ListN.{length};
-ghost use Rattle.numbers.specs.Layouts.{Valid, allGroups, imageLength};
-ghost use Rattle.tile.specs.Permutation.{permutationOf};
-ghost use Rattle.survey.specs.Surveyed.{Surveying};
+ghost use Rattle.numbers.specs.Layouts.{allGroups, imageLength};
 ghost use Rattle.pool.specs.Asked.{Sound};
 ghost use Rattle.pool.specs.Calls.{Repairs};
 ghost use Rattle.pool.specs.Repairing.{mendedImage};
@@ -21,27 +19,20 @@ pub struct Repaired {
     pub rec: Record,
 }
 
-// The permutation of a tile: the one that the survey has in hand, or another.
-fn permutation_for(w: Survey, y: Layout, tile: u64) -> [u8; 64]
-    requires { ⌜ Valid y × Surveying y w ⌝ }
-    ensures { λ r. ⌜ r ≡ permutationOf (y .p) (y .cookie) tile ⌝ }
-{
-    if w.tile == tile {
-        return w.to;
-    }
-    tile::permutation(y.p, y.cookie, tile)
-}
-
 // Stores the missing contents of group g, which the survey is at, at their homes under the whole list. What the scratch holds afterwards does
 // not count.
 fn mend_group(w: Survey, y: Layout, s: Shape, r: Record, g: u64, image: &mut [u8], lost: &mut [u8])
     requires { ⌜ InHand y s r g w × (length (now image) ≡ imageLength y) × (length (now lost) ≡ 12288) ⌝ }
     ensures { λ _. ⌜ Mended y r g (now (image .entry)) (now (image .exit)) ⌝ }
 {
-    let tile = g / s.c;
-    let to = permutation_for(w, y, tile);
-    let starts = survey::new_starts(y, s, r, &to, g);
     let plan = w.plan;
+    if plan.gone == 0 {
+        return;
+    }
+    let tile = g / s.c;
+    let in_hand = w.to;
+    let to = survey::tile_to(y, w.tile, in_hand, tile);
+    let starts = survey::new_starts(y, s, r, &to, g);
     groups::repair_group(plan, starts, image, lost);
 }
 

@@ -99,7 +99,7 @@ pub fn begin(y: Layout, s: Shape, g: u64) -> Survey
 }
 
 // The permutation of a tile: the one in hand, or another.
-fn tile_to(y: Layout, last: u64, to: [u8; 64], tile: u64) -> [u8; 64]
+pub fn tile_to(y: Layout, last: u64, to: [u8; 64], tile: u64) -> [u8; 64]
     requires { ⌜ Valid y × (to ≡ permutationOf (y .p) (y .cookie) last) ⌝ }
     ensures { λ r. ⌜ r ≡ permutationOf (y .p) (y .cookie) tile ⌝ }
 {

@@ -23,7 +23,7 @@ slots-requires : tie.Need-slots-requires
 slots-requires c κs = search needs
 
 lines-for-requires : tie.Need-lines-for-requires
-lines-for-requires c κs = search needs
+lines-for-requires c κs = (c .before .before .before .pre .0, c .before .before .missing-below .ensures .count-is)
 
 returns : tie.Need-returns
 returns c =

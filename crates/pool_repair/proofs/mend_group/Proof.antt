@@ -1,23 +1,29 @@
--- `pool_repair::mend_group` meets its contract: the new homes lie in the image, and the group's repair by its plan is the pool's (`mended-group`).
-use Rattle.pool_repair.specs.MendingLaws.{group-fits, mended-group}
+-- `pool_repair::mend_group` meets its contract: where nothing is missing nothing is to be done; else the new homes lie in the image, and the group's
+-- repair by its plan is the pool's (`mended-group`).
+use Rattle.pool_repair.specs.MendingLaws.{group-fits, mended-group, nothing-to-mend}
 use borrow.Author.Needs.{needs}
 use Rattle.pool_repair.proofs.mend_group.Statement.{statement}
 use Rattle.pool_repair.proofs.mend_group.Tie as tie
 
+returns : tie.Need-returns
+returns c =
+    let p = c .before .before .before .before .before .pre .0 in
+    nothing-to-mend _ (p .valid) (c .before .before .before .before .before .args .r) (p .good) _ _ (p .surveyed) (c .if1 .taken) _
+
 div-tile : tie.Need-div-tile
 div-tile c = search needs
 
-permutation-for-requires : tie.Need-permutation-for-requires
-permutation-for-requires c κs = search needs
+tile-to-requires : tie.Need-tile-to-requires
+tile-to-requires c κs = search needs
 
 new-starts-requires : tie.Need-new-starts-requires
 new-starts-requires c κs = search needs
 
 repair-group-requires : tie.Need-repair-group-requires
 repair-group-requires c κs =
-    let p = c .before .before .before .before .before .before .before .before .before .pre .0 in
-    let f = group-fits _ (p .valid) (c .before .before .before .before .before .before .before .before .before .args .r) (p .good) _ (p .group) _ (p .surveyed) (c .before .before .before .new-starts .result) (c .before .before .before .new-starts .ensures) _ (c .before .before .before .before .before .before .before .before .before .pre .1) in
-    (f .0, f .1, c .before .before .before .before .before .before .before .before .before .pre .2)
+    let p = c .before .before .before .before .before .before .before .before .before .before .before .before .pre .0 in
+    let f = group-fits _ (p .valid) (c .before .before .before .before .before .before .before .before .before .before .before .before .args .r) (p .good) _ (p .group) _ (p .surveyed) (c .before .before .new-starts .result) (c .before .before .new-starts .ensures) _ (c .before .before .before .before .before .before .before .before .before .before .before .before .pre .1) in
+    (f .0, f .1, c .before .before .before .before .before .before .before .before .before .before .before .before .pre .2)
 
 same-length : tie.Need-same-length
 same-length c = search needs
@@ -25,19 +31,20 @@ same-length c = search needs
 same-length-2 : tie.Need-same-length-2
 same-length-2 c = search needs
 
-returns : tie.Need-returns
-returns c =
-    let p = c .before .before .before .before .before .before .before .before .before .before .before .before .before .before .pre .0 in
-    mended-group _ (p .valid) (c .before .before .before .before .before .before .before .before .before .before .before .before .before .before .args .r) (p .good) _ (p .group) _ (p .surveyed) (c .before .before .before .before .before .before .before .before .new-starts .result) (c .before .before .before .before .before .before .before .before .new-starts .ensures) _ _ (c .before .before .before .before .before .before .before .before .before .before .before .before .before .before .pre .1) (c .before .before .before .before .repair-group .ensures)
+returns-2 : tie.Need-returns-2
+returns-2 c =
+    let p = c .before .before .before .before .before .before .before .before .before .before .before .before .before .before .before .before .before .pre .0 in
+    mended-group _ (p .valid) (c .before .before .before .before .before .before .before .before .before .before .before .before .before .before .before .before .before .args .r) (p .good) _ (p .group) _ (p .surveyed) (c .before .before .before .before .before .before .before .new-starts .result) (c .before .before .before .before .before .before .before .new-starts .ensures) _ _ (c .before .before .before .before .before .before .before .before .before .before .before .before .before .before .before .before .before .pre .1) (c .before .before .before .before .repair-group .ensures)
 
 pub mend-group-spec : {M : Type 1} → statement M
 mend-group-spec =
     tie.close
     (tie.spec
+    returns
     div-tile
-    permutation-for-requires
+    tile-to-requires
     new-starts-requires
     repair-group-requires
     same-length
     same-length-2
-    returns)
+    returns-2)
