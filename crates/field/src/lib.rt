@@ -11,7 +11,7 @@ pub fn double(a: u8) -> u8
     (a << 1) ^ over
 }
 
-// The product, by shifting steps. A factor 0 is answered at once: in small systems most are.
+// The product, by shifting steps. A factor 0 or 1 is answered at once: in small systems most are.
 pub fn mul(a: u8, b: u8) -> u8
     ensures { λ r. ⌜ r ≡ product a b ⌝ }
 {
@@ -20,6 +20,12 @@ pub fn mul(a: u8, b: u8) -> u8
     }
     if b == 0 {
         return 0;
+    }
+    if a == 1 {
+        return b;
+    }
+    if b == 1 {
+        return a;
     }
     let mut sum: u8 = 0;
     let mut x = a;

@@ -1,5 +1,5 @@
 -- The bounds of a drawn group, which keep the program's own sums small.
-use Prim.Native.Nat.{ℕ, _≤_}
+use Prim.Native.Nat.{_≤_}
 use Rattle.group_trial.specs.declared.drawn.Group.{Group}
 
 pub record Bounded (g : Group) : Type 0 where

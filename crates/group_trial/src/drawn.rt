@@ -1,7 +1,6 @@
 // Groups and lists of units: drawn ones, and those that are refused.
 use numbers::Layout;
 use trial::draw;
-ghost use mathlib.Core.Path.{_≡_};
 ghost use Prim.Native.Nat.{_*_, _<_, _≤_};
 ghost use Rattle.group_trial.specs.Bounds.{Bounded};
 

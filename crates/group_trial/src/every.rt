@@ -4,7 +4,6 @@ use crate::drawn::Group;
 use trial::newline;
 use trial::number;
 use trial::text;
-ghost use mathlib.Core.Path.{_≡_};
 ghost use lib.ListN.{length};
 ghost use Prim.Native.Nat.{_*_, _<_, _≤_};
 ghost use Rattle.group_trial.specs.Bounds.{Bounded};

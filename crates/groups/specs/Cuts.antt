@@ -1,14 +1,14 @@
 -- Which data units are named at the unit offsets between two cuts.
-use mathlib.Core.Path.{_≡_, refl, sym, ap, subst, _∙_}
+use mathlib.Core.Path.{_≡_, sym, subst, _∙_}
 use mathlib.Core.Logic.{_⊎_, inl, inr, ⊎-elim}
-use mathlib.Core.Bool.{Bool, true, false}
+use mathlib.Core.Bool.{true, false}
 use Prim.Native.Nat.{ℕ, _+_, _-_, _*_, _/_, _%_, _<_, _≤_, min, max}
 use native.Mathlib.Omega.{arith}
 use native.Mathlib.Nat.{mul-le-mul-left, mul-comm, le-refl, mod-lt, div-add-mod}
 use borrow.Author.Tests.{ltb-true, ltb-false}
 use lib.Dec.{ltb}
 use Rattle.lists.specs.Pick.{pick, pick-true, pick-false, either-way, below-or-not}
-use Rattle.lists.specs.Part.{within, within-in, within-before, within-after}
+use Rattle.lists.specs.Part.{within-in, within-before, within-after}
 use Rattle.lists.specs.Digits.{div-below}
 use Rattle.plan.specs.declared.Plan.{Plan}
 use Rattle.runs.specs.Run.{within-true}

@@ -1,6 +1,6 @@
 -- A read of a group: the file bytes that fall into it. `out` begins at file byte a, the group's data at file byte s.
 use mathlib.Core.Path.{_≡_, refl, sym, ap, ap₂, subst, _∙_}
-use mathlib.Core.Bool.{Bool, true, false}
+use mathlib.Core.Bool.{Bool, false}
 use mathlib.Core.List.{List}
 use Prim.Native.Nat.{ℕ, _+_, _-_, _*_, _/_, _%_, _<_, _≤_, min}
 use native.Mathlib.Nat.{mul-comm}
@@ -11,7 +11,7 @@ use lib.ListN.{length, getD}
 use Rattle.lists.specs.Pick.{pick, pick-true, pick-false, clash, below-or-not}
 use Rattle.lists.specs.Part.{within, within-in, within-before, within-after}
 use Rattle.lists.specs.Digits.{div-of, mod-of}
-use Rattle.lists.specs.Tabulate.{tabulate, tabulated, getD-tabulate, length-tabulate}
+use Rattle.lists.specs.Tabulate.{tabulate, tabulated, getD-tabulate}
 use Rattle.plan.specs.declared.Plan.{Plan}
 use Rattle.plan.specs.Plans.{held}
 use Rattle.runs.specs.Run.{within-cases, runSet, length-runSet, runSet-in, runSet-out}

@@ -10,7 +10,7 @@ use lib.Dec.{ltb, eqb}
 use lib.ListN.{length, getD}
 use Rattle.lists.specs.Pick.{pick, both, pick-true, pick-false, either-way, both-true, both-hold, clash, equal-or-not, not-both-ways}
 use Rattle.lists.specs.Tabulate.{tabulate, tabulated}
-use Rattle.groups.specs.Between.{between, between-in, between-after, between-true, between-cases}
+use Rattle.groups.specs.Between.{between, between-in, between-after, between-cases}
 use Rattle.groups.specs.Lays.{Lays}
 
 -- G groups of m contents, units of u bytes, in an image of len bytes: content c of group g begins at `at g c`. For each byte its group, its

@@ -1,6 +1,6 @@
 // Read, write and repair of one group of the pool, by runs of bytes.
 ghost use mathlib.Core.Path.{_≡_};
-ghost use Prim.Native.Nat.{ℕ, _+_, _-_, _*_, _≤_, _<_, min, max};
+ghost use Prim.Native.Nat.{_+_, _-_, _*_, _≤_, _<_, min, max};
 ghost use lib.ListN.{length, getD};
 ghost use Rattle.lists.specs.Pick.{pick};
 ghost use Rattle.plan.specs.Plans.{atOf, missOf, Fits, Apart};

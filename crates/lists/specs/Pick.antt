@@ -67,12 +67,6 @@ pub both-off : (t : Bool) → both t false ≡ false
 both-off true = refl
 both-off false = refl
 
--- tests are equal where each gives the other
-pub same-test : (s t : Bool) → (s ≡ true → t ≡ true) → (t ≡ true → s ≡ true) → s ≡ t
-same-test true t f g = sym (f refl)
-same-test false true f g = g refl
-same-test false false f g = refl
-
 -- below b + 1: below b, or b
 pub ltb-suc : (a b : ℕ) → ltb a (suc b) ≡ pick (eqb a b) true (ltb a b)
 ltb-suc a b =

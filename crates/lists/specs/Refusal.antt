@@ -32,11 +32,6 @@ grant (suc n) a b = b
 
 -- ---- by steps
 
-pub orElse-zero : (a b : ℕ) → a orElse b ≡ 0 → (a ≡ 0) × (b ≡ 0)
-unfolding _orElse_
-orElse-zero zero b e = (refl, e)
-orElse-zero (suc a) b e = absurd (omega arith)
-
 pub orElse-right : (a b : ℕ) → a ≡ 0 → a orElse b ≡ b
 unfolding _orElse_
 orElse-right a b e = ap (λ (x : ℕ). x orElse b) e

@@ -53,23 +53,6 @@ module _ (y : Layout) (v : Valid y) where
       regroup : y .n * y .u * allGroups y ≡ y .t * groups y * y .n * y .u
       regroup = simp (mul-assoc, mul-comm, mul-left-comm) refl
 
-  -- and back: the offset of byte o of data unit c of group g is that byte
-  module _ (g c o : ℕ) (hc : c < y .n) (ho : o < y .u) where
-    in-group : y .u * c + o < y .n * y .u
-    in-group = subst (λ (m : ℕ). y .u * c + o < m) (mul-comm (y .u) (y .n)) (digits-below hc ho)
-
-    pub offset-group : groupOf y (offsetOf y g c o) ≡ g
-    unfolding groupOf offsetOf
-    offset-group = div-of (y .n * y .u) g in-group
-
-    pub offset-unit : unitIn y (offsetOf y g c o) ≡ c
-    unfolding unitIn offsetOf
-    offset-unit = ap (λ (r : ℕ). r / y .u) (mod-of (y .n * y .u) g in-group) ∙ div-of (y .u) c ho
-
-    pub offset-byte : byteIn y (offsetOf y g c o) ≡ o
-    unfolding byteIn offsetOf
-    offset-byte = ap (λ (r : ℕ). r % y .u) (mod-of (y .n * y .u) g in-group) ∙ mod-of (y .u) c ho
-
   -- ---- a byte of the image by its digits
 
   spot-digits : (a : Place) (i : ℕ) → spotOf y a i ≡ frames y * y .u * a .target + (y .u * a .frame + i)
@@ -175,10 +158,6 @@ module _ (y : Layout) (v : Valid y) where
     unit-here-lt = unit-in y v (frameHere y x) (targetHere y x) (target-here-lt x h) (frame-here-lt x) .1
 
   -- ---- no two bytes of the file share a byte of the image
-
-  pub image-byte-lt : (x : ℕ) → x < capacity y → imageByte y x < imageLength y
-  unfolding imageByte
-  image-byte-lt x h = spot-in (groupOf y x) (unitIn y x) (byteIn y x) (group-lt x h) (unit-in-width x) (byte-lt x)
 
   pub image-apart : (x x′ : ℕ) → x < capacity y → x′ < capacity y → imageByte y x ≡ imageByte y x′ → x ≡ x′
   unfolding imageByte

@@ -11,7 +11,7 @@ use Rattle.lists.specs.Pick.{pick}
 use Rattle.lists.specs.Count.{count, count-same}
 use Rattle.lists.specs.Those.{those}
 use Rattle.field.specs.Byte.{_⊕_, mul}
-use Rattle.field.specs.Sum.{sumTo, sum-cong}
+use Rattle.field.specs.Sum.{sum-cong}
 use Rattle.systems.specs.Coef.{coef}
 use Rattle.systems.specs.Cramer.{sol, row}
 use Rattle.systems.specs.System.{sys}

@@ -8,7 +8,7 @@ use native.Mathlib.Nat.{lt-irrefl, le-refl, le-trans}
 use borrow.Author.Tests.{lt-ltb, le-ltb, ltb-true, ltb-false, eqb-true, eqb-false}
 use lib.Dec.{ltb, eqb}
 use lib.ListN.{length}
-use Rattle.lists.specs.Pick.{pick, both, pick-false, either-way, both-off, ltb-suc, clash}
+use Rattle.lists.specs.Pick.{pick, both, either-way, both-off, ltb-suc}
 use Rattle.lists.specs.Tabulate.{at, tabulated}
 use Rattle.numbers.specs.declared.Layout.{Layout}
 use Rattle.numbers.specs.Layouts.{Valid, allGroups, contents, imageLength}
@@ -21,7 +21,7 @@ use Rattle.homes.specs.MissingLaws.{home-lt}
 use Rattle.pool.specs.Contents.{contentByte}
 use Rattle.pool.specs.Storing.{owner, cellAfter, storing}
 use Rattle.pool.specs.StoringLaws.{owner-home, home-owner, storing-length}
-use Rattle.pool.specs.Sweep.{storing-join, content-then, content-then-mended}
+use Rattle.pool.specs.Sweep.{storing-join, content-then-mended}
 use Rattle.pool.specs.Turn.{sofar, sweep-begin, sweep-skip, sweep-end}
 
 -- what the code of group g₀ leaves of an image: at each home of the group what is on, and every other byte as it was
@@ -113,27 +113,11 @@ module _ (y : Layout) (v : Valid y) (R : Record) (j : ℕ) (le : j ≤ y .k) (on
     pub group-end : (g₀ : ℕ) → ((g o c : ℕ) → g < allGroups y → o < y .u → c < contents y → on g o c ≡ true → g < g₀) → below g₀ ≡ storing y R j on val img₀
     group-end g₀ upto = sweep-end y v R j le on val img₀ len (λ g o c. ltb g g₀) (λ g o c bg bo bc t. lt-ltb g g₀ (upto g o c bg bo bc t))
 
-    -- a group that has nothing on
-    pub group-skip : (g₀ : ℕ) → ((o c : ℕ) → o < y .u → c < contents y → on g₀ o c ≡ false) → below g₀ ≡ below (suc g₀)
-    group-skip g₀ none =
-        sweep-skip y v R j le on val img₀ len (λ g o c. ltb g g₀) (λ g o c. ltb g (suc g₀))
-        (λ g o c bg bo bc t. ltb-suc g g₀ ∙ pick-false (eqb g g₀) true (ltb g g₀) (other g o c bo bc t))
-      where
-        other : (g o c : ℕ) → o < y .u → c < contents y → on g o c ≡ true → eqb g g₀ ≡ false
-        other g o c bo bc t =
-            ⊎-elim (λ (e : eqb g g₀ ≡ true). clash (on g o c) t (ap (λ (h : ℕ). on h o c) (eqb-true g g₀ e) ∙ none o c bo bc)) (λ (e : eqb g g₀ ≡ false). e)
-            (either-way (eqb g g₀))
-
 -- ---- the contents of a group not yet done are those of the image before the loop
 
 module _ (y : Layout) (v : Valid y) (R : Record) (r : Good y R) (on : ℕ → ℕ → ℕ → Bool) (val : ℕ → ℕ → ℕ → ℕ) (img₀ : List ℕ) (len : length img₀ ≡ imageLength y) where
   not-yet : (g o c : ℕ) → both (on g o c) (ltb g g) ≡ false
   not-yet g o c = ap (both (on g o c)) (le-ltb g g (le-refl g)) ∙ both-off (on g o c)
-
-  -- in a write
-  pub content-yet : (le : R .q ≤ y .k) (g o c : ℕ) → g < allGroups y → o < y .u → c < contents y
-      → contentByte y R (below y v R (R .q) le on val img₀ len g) g o c ≡ contentByte y R img₀ g o c
-  content-yet le g o c hg ho hc = content-then y v R r _ val img₀ len g o hg ho (λ u b m. not-yet g o u) c hc
 
   -- in a repair
   pub content-yet-mended : (le : R .k ≤ y .k) (g o c : ℕ) → g < allGroups y → o < y .u → c < contents y

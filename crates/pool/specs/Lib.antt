@@ -21,9 +21,7 @@ pub mod Changes
 pub mod Blind
 pub mod Elsewhere
 pub mod ElsewhereKept
-pub mod FileBytes
 pub mod Cuts
 pub mod Sweep
 pub mod Turn
-pub mod Progress
 pub mod Groups

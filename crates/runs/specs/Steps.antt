@@ -1,18 +1,17 @@
 -- What a turn or a return of the code on runs shows, over plain values.
-use mathlib.Core.Path.{_≡_, refl, sym, ap, ap₂, subst, _∙_}
-use mathlib.Core.Bool.{Bool, true, false}
+use mathlib.Core.Path.{_≡_, sym, ap, ap₂, subst, _∙_}
+use mathlib.Core.Bool.{true, false}
 use mathlib.Core.List.{List, []}
-use Prim.Native.Nat.{ℕ, _+_, _-_, _*_, _<_, _≤_}
+use Prim.Native.Nat.{ℕ, _+_, _-_, _<_, _≤_}
 use native.Mathlib.Nat.{add-sub-cancel-left}
 use native.Mathlib.Omega.{arith}
 use lib.ListN.{length, getD, set, length-set}
-use Rattle.lists.specs.Pick.{pick, pick-true, pick-false}
+use Rattle.lists.specs.Pick.{pick-false}
 use Rattle.lists.specs.Span.{Span}
 use Rattle.lists.specs.Tabulate.{fill-step}
 use Rattle.field.specs.Byte.{_⊕_, mul}
 use Rattle.field.specs.Ring.{zero-⊕}
-use Rattle.field.specs.Sum.{sumTo, sum-cong}
-use Rattle.systems.specs.Matrix.{ent}
+use Rattle.field.specs.Sum.{sum-cong}
 use Rattle.kernel.specs.Combine.{sumAt}
 use Rattle.parity.specs.Group.{rebuilt}
 use Rattle.plan.specs.declared.Plan.{Plan}

@@ -1,11 +1,11 @@
 -- What the steps of a survey hand on.
-use mathlib.Core.Path.{_≡_, refl, sym, ap, subst⁻¹, _∙_}
-use mathlib.Core.Bool.{Bool, false}
+use mathlib.Core.Path.{_≡_, ap, subst⁻¹, _∙_}
+use mathlib.Core.Bool.{false}
 use mathlib.Core.List.{List}
-use Prim.Native.Nat.{ℕ, _+_, _/_, _≤_, _<_}
+use Prim.Native.Nat.{ℕ, _+_, _≤_, _<_}
 use native.Mathlib.Omega.{arith}
 use lib.ListN.{getD, replicate, getD-replicate}
-use Rattle.lists.specs.Count.{count, count-same, count-none}
+use Rattle.lists.specs.Count.{count-same, count-none}
 use Rattle.numbers.specs.declared.Layout.{Layout}
 use Rattle.numbers.specs.declared.Shape.{Shape}
 use Rattle.numbers.specs.Layouts.{Valid, width, contents}

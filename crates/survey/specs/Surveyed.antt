@@ -1,16 +1,13 @@
 -- A plan is that of group g under a failure record: where the contents' homes under the first j entries begin, and which contents are missing.
 -- What the plan says of a byte is then what the pool's definitions say of it.
-use mathlib.Core.Path.{_≡_, refl, sym, ap, subst, subst⁻¹, _∙_}
-use mathlib.Core.Bool.{Bool, false}
+use mathlib.Core.Path.{_≡_, sym, ap, _∙_}
 use mathlib.Core.List.{List}
 use Prim.Native.Nat.{ℕ, _+_, _-_, _≤_, _<_}
 use native.Mathlib.Omega.{arith}
 use lib.ListN.{getD}
-use Rattle.lists.specs.Count.{count}
 use Rattle.numbers.specs.declared.Layout.{Layout}
-use Rattle.numbers.specs.Layouts.{Valid, width, contents, allGroups, imageLength}
+use Rattle.numbers.specs.Layouts.{Valid, contents, allGroups, imageLength}
 use Rattle.place.specs.declared.Unit.{Unit}
-use Rattle.place.specs.Places.{placeOf}
 use Rattle.place.specs.Bytes.{spotOf, spot, unitHere}
 use Rattle.place.specs.ByteLaws.{spot-in, unit-there}
 use Rattle.parity.specs.Group.{Solvable, rebuilt}

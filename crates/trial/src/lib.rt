@@ -1,8 +1,6 @@
 // What the programs that are compared with `oracle/` share: the seeded draws, and how they print.
 use libc::STDOUT_FILENO;
-ghost use mathlib.Core.Path.{_≡_};
 ghost use Prim.Native.Nat.{_<_};
-ghost use lib.ListN.{length};
 
 // ---- draws
 

@@ -1,5 +1,5 @@
 -- A whole run: from the runs of scratch to the columns.
-use mathlib.Core.Path.{_≡_, refl, sym, ap, ap₂, subst, subst⁻¹, _∙_}
+use mathlib.Core.Path.{_≡_, refl, sym, ap, ap₂, subst⁻¹, _∙_}
 use mathlib.Core.Logic.{⊎-elim}
 use mathlib.Core.Bool.{Bool, true, false, not}
 use mathlib.Core.List.{List}
@@ -12,21 +12,18 @@ use lib.ListN.{length, getD}
 use Rattle.lists.specs.Pick.{pick, pick-true, pick-false, either-way, both-true}
 use Rattle.lists.specs.Part.{within, within-in}
 use Rattle.field.specs.Byte.{mul}
-use Rattle.field.specs.Sum.{sumTo, sum-cong}
-use Rattle.systems.specs.Coef.{coef}
-use Rattle.systems.specs.Matrix.{ent}
+use Rattle.field.specs.Sum.{sum-cong}
 use Rattle.parity.specs.Group.{content, parityOf}
-use Rattle.parity.specs.Content.{content-data, content-beyond}
 use Rattle.plan.specs.declared.Plan.{Plan}
-use Rattle.plan.specs.Plans.{linesOf, atOf, missOf, Fits, column, held}
+use Rattle.plan.specs.Plans.{atOf, missOf, Fits, column, held}
 use Rattle.plan.specs.Held.{rank-lt}
 use Rattle.parity.specs.Group.{rebuilt}
-use Rattle.runs.specs.Run.{within-true, within-cases, paint, paint-hit, paint-ext}
+use Rattle.runs.specs.Run.{within-cases, paint, paint-hit, paint-ext}
 use Rattle.runs.specs.Held.{heldRun, rankPlace}
 use Rattle.runs.specs.Steps.{kept-at}
 use Rattle.updates.specs.declared.Origin.{Origin}
 use Rattle.updates.specs.Writing.{laid, newContent, storesIn, newRun, runWritten, RunFits}
-use Rattle.updates.specs.Origin.{kindOf, byteStart, lostStart, Starts, OriginFits, OriginOf, originByte, parityRun, parityRuns, storedRun}
+use Rattle.updates.specs.Origin.{kindOf, byteStart, lostStart, OriginFits, OriginOf, originByte, parityRun, parityRuns, storedRun}
 
 -- runs that lie 4096 apart, by their bytes
 pub strided : (len : ℕ) (v : ℕ → ℕ → ℕ) (n : ℕ) (l : List ℕ) (i o : ℕ) → i < n → o < len → len ≤ 4096 → n * 4096 ≤ length l

@@ -1,6 +1,5 @@
 -- What a turn or a return of the code that writes a run shows, over plain values.
-use mathlib.Core.Path.{_≡_, refl, sym, ap, ap₂, subst, _∙_}
-use mathlib.Core.Logic.{⊎-elim}
+use mathlib.Core.Path.{_≡_, refl, sym, ap, _∙_}
 use mathlib.Core.Bool.{Bool, true, false, not}
 use mathlib.Core.List.{List, []}
 use Prim.Native.Nat.{ℕ, zero, suc, _+_, _-_, _*_, _<_, _≤_}
@@ -19,7 +18,7 @@ use Rattle.field.specs.Sum.{sumTo, sum-cong, sum-add, sum-zero}
 use Rattle.kernel.specs.Combine.{sumAt}
 use Rattle.plan.specs.declared.Lines.{Lines}
 use Rattle.plan.specs.Plans.{linesOf}
-use Rattle.runs.specs.Run.{runSet, length-runSet, runSet-is, runSet-ext, paint, paint-turn}
+use Rattle.runs.specs.Run.{runSet, runSet-is, runSet-ext, paint, paint-turn}
 use Rattle.runs.specs.Held.{runOf, zeroRun}
 use Rattle.runs.specs.Steps.{span-run, add-run}
 use Rattle.updates.specs.declared.Origin.{Origin}

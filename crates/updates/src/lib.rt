@@ -2,17 +2,14 @@
 // the image as it was.
 ghost use mathlib.Core.Path.{_≡_};
 ghost use mathlib.Core.Bool.{true, false};
-ghost use mathlib.Core.List.{[]};
 ghost use Prim.Native.Nat.{ℕ, _+_, _-_, _*_, _<_, _≤_};
 ghost use lib.ListN.{length, getD};
 ghost use lib.Dec.{eqb};
 ghost use Rattle.lists.specs.Pick.{pick};
 ghost use Rattle.lists.specs.Part.{within as withinRun};
-ghost use Rattle.lists.specs.Search.{any};
 ghost use Rattle.field.specs.Byte.{_⊕_};
-ghost use Rattle.plan.specs.Plans.{linesOf, atOf, missOf, Fits};
+ghost use Rattle.plan.specs.Plans.{atOf, Fits};
 ghost use Rattle.runs.specs.Run.{runSet, paint};
-ghost use Rattle.runs.specs.Held.{rankPlace};
 ghost use Rattle.updates.specs.Writing.{storesIn, runWritten, RunFits};
 ghost use Rattle.updates.specs.Origin.{kindOf, byteStart, lostStart, Starts, OriginFits, OriginOf, kindSum, parityRun, parityRuns, storedRun};
 use plan::Lines;

@@ -1,5 +1,5 @@
 -- `pool_look::prepare` meets its contract: the scratch is cleared first, then holds the rebuilt unit where the content is missing.
-use mathlib.Core.Path.{_≡_, refl, sym, ap, _∙_}
+use mathlib.Core.Path.{sym, ap, _∙_}
 use native.Mathlib.Omega.{arith}
 use borrow.Author.Needs.{needs}
 use lib.ListN.{length}

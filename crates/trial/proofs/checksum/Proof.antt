@@ -1,7 +1,6 @@
 -- `trial::checksum` meets its contract: the sum stays below its modulus.
 use borrow.Author.Needs.{needs}
 use Prim.Native.Nat.{_≤_, _<_, _-_}
-use mathlib.Core.Path.{_≡_}
 use lib.ListN.{length}
 use Rattle.trial.proofs.checksum.Statement.{statement}
 use Rattle.trial.proofs.checksum.Tie as tie

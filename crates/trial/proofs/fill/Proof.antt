@@ -1,6 +1,6 @@
 -- `trial::fill` meets its contract: the index stays below the length.
 use borrow.Author.Needs.{needs}
-use Prim.Native.Nat.{_≤_, _<_, _-_}
+use Prim.Native.Nat.{_≤_, _-_}
 use mathlib.Core.Path.{_≡_}
 use lib.ListN.{length}
 use Rattle.trial.proofs.fill.Statement.{statement}

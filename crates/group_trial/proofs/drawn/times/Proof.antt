@@ -1,7 +1,6 @@
 -- `group_trial::drawn::times`. The product of the bounds is small.
 use native.Mathlib.Omega.{arith}
 use native.Mathlib.Nat.{mul-le-mul}
-use borrow.Author.Needs.{needs}
 use Rattle.group_trial.proofs.drawn.times.Statement.{statement}
 use Rattle.group_trial.proofs.drawn.times.Tie as tie
 

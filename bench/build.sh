@@ -1,0 +1,57 @@
+# shellcheck shell=sh disable=SC2034
+# Sourced by bench/run and bench/instructions, at the repository's root. Builds the archive, the twin and the driver for
+# x86-64 into target/bench, with every peer that can be linked here. Sets `driver`.
+#
+# SPLICEBELL_ARCHIVE_DIR=FOLDER   takes the archive there instead of building it with `rt staticlib abi`.
+# ZFEC=FOLDER                     where zfec's fec.c and fec.h lie; by default where Debian's python3-zfec puts them.
+. scripts/host.sh
+
+built=target/bench
+archive=${SPLICEBELL_ARCHIVE_DIR:-target/staticlib}/libabi.a
+ZFEC=${ZFEC:-/usr/lib/python3/dist-packages/zfec}
+flags="-O2 -std=gnu11 -Wall -Wextra -Iinclude"
+plain_sources="timing floors coders codes pools pool_times maps catalogue growth works main"
+
+mkdir -p "$built"
+if [ -z "${SPLICEBELL_ARCHIVE_DIR:-}" ]; then
+    rt staticlib abi >"$built/archive.log" 2>&1 || { cat "$built/archive.log" >&2; exit 1; }
+fi
+"${RUSTC:-rustc}" --edition 2021 -O -C panic=abort --crate-type staticlib \
+    ${CARGO_BUILD_TARGET:+--target "$CARGO_BUILD_TARGET"} -o "$built/libtwin.a" bench/twin/lib.rs
+
+# can_link NAME HEADER CALL WORDS...: whether a three-line program with that header and call can be linked here.
+can_link() {
+    name=$1 header=$2 call=$3
+    shift 3
+    printf '#include <stddef.h>\n#include <%s>\nint main(void) { return (void *)&%s == NULL; }\n' "$header" "$call" \
+        >"$built/try.c"
+    if $CC "$built/try.c" -o "$built/try" "$@" >"$built/try.log" 2>&1; then
+        echo "$name: found"
+        return 0
+    fi
+    echo "$name: not found, skipped (docs/BENCH.md says how to install it)"
+    return 1
+}
+
+peers=
+peer_flags=
+peer_sources=
+if can_link ISA-L isa-l.h ec_encode_data_sse -lisal; then
+    peers="$peers -lisal" peer_flags="$peer_flags -DWITH_ISAL" peer_sources="$peer_sources bench/src/isal.c"
+fi
+if can_link jerasure jerasure.h jerasure_matrix_encode -I/usr/include/jerasure -lJerasure -lgf_complete; then
+    peers="$peers -lJerasure -lgf_complete" peer_flags="$peer_flags -DWITH_JERASURE -I/usr/include/jerasure"
+    peer_sources="$peer_sources bench/src/jerasure.c"
+fi
+if can_link zfec fec.h fec_encode "-I$ZFEC" "$ZFEC/fec.c"; then
+    $CC -O2 -w -c "$ZFEC/fec.c" -o "$built/fec.o"
+    peer_flags="$peer_flags -DWITH_ZFEC -I$ZFEC" peer_sources="$peer_sources bench/src/zfec.c $built/fec.o"
+fi
+
+sources=
+for name in $plain_sources; do sources="$sources bench/src/$name.c"; done
+libraries="$archive $built/libtwin.a -lpthread -ldl"
+driver=$built/bench
+# these are lists of words
+# shellcheck disable=SC2086
+$CC $flags $peer_flags $sources $peer_sources $libraries $peers -o "$driver"

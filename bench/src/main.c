@@ -1,0 +1,51 @@
+#include "bench.h"
+
+#include <stdio.h>
+#include <stdlib.h>
+#include <string.h>
+
+static const struct {
+    const char *name;
+    void (*run)(void);
+} parts[] = {
+    {"codes", run_codes},         {"pools", run_pools},   {"maps", run_maps},
+    {"catalogue", run_catalogue}, {"growth", run_growth},
+};
+enum { PARTS = sizeof parts / sizeof *parts };
+
+static int usage(void)
+{
+    fprintf(stderr, "bench [--quick] [--emulated] [codes|pools|maps|catalogue|growth]...\n"
+                    "bench --list\nbench --work NAME REPEATS\n");
+    return 2;
+}
+
+int main(int argc, char **argv)
+{
+    bool chosen[PARTS] = {false}, any = false;
+    if (argc == 2 && strcmp(argv[1], "--list") == 0)
+        return list_works();
+    if (argc == 4 && strcmp(argv[1], "--work") == 0)
+        return do_work(argv[2], atol(argv[3]));
+    for (int a = 1; a < argc; a++) {
+        bool known = true;
+        if (strcmp(argv[a], "--quick") == 0)
+            options.quick = true;
+        else if (strcmp(argv[a], "--emulated") == 0)
+            options.emulated = true;
+        else
+            known = false;
+        for (size_t i = 0; i < PARTS; i++)
+            if (strcmp(argv[a], parts[i].name) == 0)
+                any = known = chosen[i] = true;
+        if (!known)
+            return usage();
+    }
+    for (size_t i = 0; i < PARTS; i++)
+        if (!any || chosen[i]) {
+            parts[i].run();
+            fflush(stdout);
+        }
+    floors_print();
+    return 0;
+}

@@ -1,0 +1,175 @@
+/* The pool's calls over an image that fits the cache and over one that does not. */
+#include "coders.h"
+#include "pools.h"
+
+#include <stdio.h>
+#include <stdlib.h>
+#include <string.h>
+
+/* Encode and rebuild over group buffers of the same total size as the pool, so that both stream through memory. */
+struct span {
+    struct group group;
+    uint8_t *bytes;
+    size_t groups;
+};
+
+static struct span span_of(const struct pool *p, size_t lost)
+{
+    struct span s = {.group = group_of(p->y.n, p->y.k, p->y.u, lost)};
+    s.groups = p->m.image / s.group.length;
+    s.bytes = room(s.groups * s.group.length);
+    fill(s.bytes, s.groups * s.group.length, 3);
+    free(s.group.buf);
+    return s;
+}
+
+static void over_span(struct span *s, work work)
+{
+    for (size_t i = 0; i < s->groups; i++) {
+        s->group.buf = s->bytes + i * s->group.length;
+        work(&s->group);
+    }
+}
+
+static void encode_span(void *context)
+{
+    over_span(context, ours.encode);
+}
+
+static void rebuild_span(void *context)
+{
+    over_span(context, ours.rebuild);
+}
+
+/* Ours and the twin must leave the same image and read the same bytes, before and after failures and repair. */
+static void compare(uint64_t failed)
+{
+    struct pool a = bench_pool(6), b = bench_pool(6);
+    static const char *const order[] = {"write-group-by-group", "write-1", "write-4K", "read-groups", "repair"};
+    b.calls = &twin_calls;
+    a.r = b.r = failures(failed);
+    for (size_t i = 0; i < sizeof order / sizeof *order; i++) {
+        fill(a.file, a.m.capacity, i);
+        memcpy(b.file, a.file, a.m.capacity);
+        pass_named(order[i])->work(&a);
+        pass_named(order[i])->work(&b);
+        char what[80];
+        snprintf(what, sizeof what, "the same from ours and the twin after %s with %d missing", order[i], (int)failed);
+        must(memcmp(a.image, b.image, a.m.image) == 0, what);
+        must(memcmp(a.out, b.out, a.m.capacity) == 0, what);
+        must(a.rebuilt == b.rebuilt, what);
+    }
+    pool_free(&a);
+    pool_free(&b);
+}
+
+static void row(struct pool *p, const char *what, const char *name, double copy_seconds, double *seconds)
+{
+    const struct pass *pass = pass_named(name);
+    struct pool theirs = *p;
+    theirs.calls = &twin_calls;
+    struct timed t[] = {{pass->work, p, 0}, {pass->work, &theirs, 0}};
+    time_in_turns(t, 2);
+    *seconds = t[0].seconds;
+    double bytes = pass->bytes(p), calls = pass->calls(p);
+    if (bytes == calls)
+        printf("%-44s %9.2f us %9.2f us (%5.2f)\n", what, t[0].seconds / calls * 1e6, t[1].seconds / calls * 1e6,
+               t[1].seconds / t[0].seconds);
+    else
+        printf("%-44s %12.0f %12.0f (%5.2f)  %12.2f\n", what, rate(bytes, t[0].seconds), rate(bytes, t[1].seconds),
+               t[1].seconds / t[0].seconds, rate(bytes, t[0].seconds) / rate(p->m.capacity, copy_seconds));
+}
+
+static double seconds_of(work work, void *context)
+{
+    struct timed t = {work, context, 0};
+    time_in_turns(&t, 1);
+    return t.seconds;
+}
+
+static double encode_rate(const struct pool *p)
+{
+    struct span s = span_of(p, 1);
+    double seconds = seconds_of(encode_span, &s);
+    free(s.bytes);
+    return rate(s.groups * (double)(p->y.n * p->y.u), seconds);
+}
+
+static double rebuild_rate(const struct pool *p, size_t lost)
+{
+    struct span s = span_of(p, lost);
+    double seconds = seconds_of(rebuild_span, &s);
+    free(s.bytes);
+    return rate(s.groups * (double)(lost * p->y.u), seconds);
+}
+
+static void note(const char *size, const char *what, double ratio, double wanted)
+{
+    char line[120];
+    snprintf(line, sizeof line, "%s, pool of %s", what, size);
+    floor_at_least(line, ratio, wanted);
+}
+
+static void healthy(struct pool *p, const char *size, double copy_seconds)
+{
+    double write, read, other;
+    row(p, "write, 32 whole groups a call", "write-groups", copy_seconds, &write);
+    row(p, "write, one whole group a call", "write-group-by-group", copy_seconds, &other);
+    row(p, "read, 32 whole groups a call", "read-groups", copy_seconds, &read);
+    row(p, "read, one whole group a call", "read-group-by-group", copy_seconds, &other);
+    must(memcmp(p->out, p->file, p->m.capacity) == 0, "what was read is what was written");
+    row(p, "write, 4 KiB at random", "write-4K", copy_seconds, &other);
+    row(p, "read, 4 KiB at random", "read-4K", copy_seconds, &other);
+    row(p, "write, 1 byte at random", "write-1", copy_seconds, &other);
+    row(p, "read, 1 byte at random", "read-1", copy_seconds, &other);
+    double encode = encode_rate(p);
+    printf("%-44s %12.0f\n", "our encode over group buffers of that size", encode);
+    note(size, "whole-group writes / our encode", rate(p->m.capacity, write) / encode, 0.6);
+    note(size, "healthy sequential reads / memcpy", copy_seconds / read, 0.4);
+}
+
+static void failed(struct pool *p, const char *size, uint64_t count, double copy_seconds)
+{
+    static const struct {
+        const char *what, *name;
+    } rows[] = {{"write, 32 whole groups a call", "write-groups"}, {"read, 32 whole groups a call", "read-groups"},
+                {"write, 4 KiB at random", "write-4K"},            {"read, 4 KiB at random", "read-4K"}};
+    p->r = failures(count);
+    char what[80];
+    double seconds;
+    for (size_t i = 0; i < sizeof rows / sizeof *rows; i++) {
+        snprintf(what, sizeof what, "%s, %d missing", rows[i].what, (int)count);
+        row(p, what, rows[i].name, copy_seconds, &seconds);
+    }
+    must(memcmp(p->out, p->file, p->m.capacity) == 0, "what was read is what was written");
+    snprintf(what, sizeof what, "repair after %d failed, rebuilt bytes", (int)count);
+    row(p, what, "repair", copy_seconds, &seconds);
+    double rebuild = rebuild_rate(p, count), repair = rate(p->rebuilt * (double)p->y.u, seconds);
+    snprintf(what, sizeof what, "our rebuild, %d lost, over groups of that size", (int)count);
+    printf("%-44s %12.0f\n", what, rebuild);
+    snprintf(what, sizeof what, "repair after %d failed / our rebuild", (int)count);
+    note(size, what, repair / rebuild, 0.4);
+}
+
+static void table(uint64_t tiles)
+{
+    struct pool p = bench_pool(tiles);
+    char size[20];
+    snprintf(size, sizeof size, "%.0f MB", p.m.image / 1e6);
+    double copy_seconds = seconds_of(pass_named("copy")->work, &p);
+    printf("\nPool of %s: 8+2 over 24, 4 KiB units, %d tiles, a file of %.1f MB; memcpy of that file %.0f MB/s\n", size,
+           (int)tiles, p.m.capacity / 1e6, rate(p.m.capacity, copy_seconds));
+    printf("%-44s %12s %20s  %12s\n", "MB/s, or microseconds a call", "ours", "Rust twin (ours / it)", "ours / memcpy");
+    healthy(&p, size, copy_seconds);
+    failed(&p, size, 1, copy_seconds);
+    failed(&p, size, 2, copy_seconds);
+    pool_free(&p);
+}
+
+void run_pools(void)
+{
+    for (uint64_t count = 0; count <= 2; count++)
+        compare(count);
+    table(20);
+    table(options.quick || options.emulated ? 341 : 2730);
+}

@@ -1,0 +1,50 @@
+/* A pool image in memory, and passes over it that are timed or counted. */
+#ifndef POOLS_H
+#define POOLS_H
+
+#include "bench.h"
+#include "splicebell.h"
+
+/* Who answers the pool's calls: ours, or the twin. */
+struct answerer {
+    const char *name;
+    uint64_t (*read)(splicebell_layout, splicebell_record, const uint8_t *, size_t, uint64_t, uint8_t *, size_t);
+    uint64_t (*write)(splicebell_layout, splicebell_record, uint8_t *, size_t, uint64_t, const uint8_t *, size_t);
+    splicebell_repaired (*repair)(splicebell_layout, splicebell_record, uint8_t *, size_t);
+};
+extern const struct answerer our_calls, twin_calls;
+
+enum { DRAWN_OFFSETS = 256 };
+
+struct pool {
+    splicebell_layout y;
+    splicebell_numbers m;
+    splicebell_record r;
+    const struct answerer *calls;
+    uint8_t *image;
+    uint8_t *file;                      /* what is written: as long as the file */
+    uint8_t *out;                       /* where it is read to: as long as the file */
+    uint64_t units_at[DRAWN_OFFSETS];   /* drawn offsets at which a unit begins */
+    uint64_t rebuilt;                   /* units that the last repair stored */
+};
+
+/* A pass over a pool: its bytes are those written, read or rebuilt by one pass, and its calls those of the pool. */
+struct pass {
+    const char *name;
+    work work; /* its context is a struct pool */
+    double (*bytes)(const struct pool *p);
+    double (*calls)(const struct pool *p);
+};
+extern const struct pass passes[];
+extern const size_t pass_count;
+const struct pass *pass_named(const char *name);
+
+/* The bench's pool: 8+2 over 24 targets, units of 4 KiB, full of drawn bytes. */
+struct pool pool_of(uint64_t n, uint64_t k, uint64_t p, uint64_t u, uint64_t t);
+struct pool bench_pool(uint64_t tiles);
+void pool_free(struct pool *p);
+
+/* A record of that many failures, none repaired. */
+splicebell_record failures(uint64_t count);
+
+#endif

@@ -1,0 +1,16 @@
+/* The plain Rust twin of twin/lib.rs: the signatures of splicebell.h. */
+#ifndef TWIN_H
+#define TWIN_H
+
+#include "splicebell.h"
+
+uint64_t twin_encode(splicebell_layout y, uint8_t *buf, size_t len);
+uint64_t twin_rebuild(splicebell_layout y, const uint64_t *missing, size_t missing_count, uint8_t *buf, size_t len);
+uint64_t twin_read(splicebell_layout y, splicebell_record r, const uint8_t *image, size_t image_len, uint64_t offset,
+                   uint8_t *out, size_t out_len);
+uint64_t twin_write(splicebell_layout y, splicebell_record r, uint8_t *image, size_t image_len, uint64_t offset,
+                    const uint8_t *bytes, size_t bytes_len);
+splicebell_repaired twin_repair(splicebell_layout y, splicebell_record r, uint8_t *image, size_t image_len);
+splicebell_mapped twin_map_offset(splicebell_layout y, uint64_t offset);
+
+#endif

@@ -1,0 +1,143 @@
+/* Pieces of work by name, for counting what they execute. The names say who does it:
+ *
+ *     encode:8+2:4096:ours            code, bytes of a unit
+ *     rebuild:8+2:4096:2:ours         and how many units are lost
+ *     pool:repair:8+2:20:1:ours       a pass over a pool on 24 targets: code, tiles, failures
+ *     map:ours
+ *     catalogue:lookup:10000          records
+ */
+#include "catalogue.h"
+#include "coders.h"
+#include "pools.h"
+#include "twin.h"
+
+#include <stdio.h>
+#include <string.h>
+
+static const struct {
+    int n, k;
+} codes[] = {{4, 1}, {8, 2}, {10, 3}, {16, 3}};
+
+/* What one call of a work brings, for instructions a byte and a call. */
+static int repeat(work work, void *context, long repeats, double bytes, double calls)
+{
+    for (long i = 0; i < repeats; i++)
+        work(context);
+    printf("%.0f %.0f\n", bytes, calls);
+    return 0;
+}
+
+static const struct coder *coder_called(const char *name)
+{
+    for (size_t i = 0; i < coder_count; i++)
+        if (strcmp(coders[i]->name, name) == 0)
+            return coders[i];
+    must(false, name);
+    return NULL;
+}
+
+static int work_on_group(const char *name, long repeats)
+{
+    int n, k, u, lost = 0;
+    char who[20];
+    bool encode = sscanf(name, "encode:%d+%d:%d:%19[^:]", &n, &k, &u, who) == 4;
+    must(encode || sscanf(name, "rebuild:%d+%d:%d:%d:%19[^:]", &n, &k, &u, &lost, who) == 5, name);
+    struct group g = group_of(n, k, u, encode ? 1 : lost);
+    const struct coder *c = coder_called(who);
+    ours.encode(&g);
+    if (c->prepare)
+        c->prepare(&g);
+    return repeat(encode ? c->encode : c->rebuild, &g, repeats, (encode ? n : lost) * (double)u, 1);
+}
+
+static int work_on_pool(const char *name, long repeats)
+{
+    char pass_name[30], who[20];
+    int n, k, failed, tiles;
+    must(sscanf(name, "pool:%29[^:]:%d+%d:%d:%d:%19[^:]", pass_name, &n, &k, &tiles, &failed, who) == 6, name);
+    struct pool p = pool_of(n, k, 24, 4096, tiles);
+    const struct pass *pass = pass_named(pass_name);
+    p.r = failures(failed);
+    p.calls = strcmp(who, "ours") == 0 ? &our_calls : &twin_calls;
+    pass->work(&p); /* so that the count of rebuilt units is there */
+    return repeat(pass->work, &p, repeats, pass->bytes(&p), pass->calls(&p));
+}
+
+struct mapping {
+    splicebell_layout y;
+    splicebell_mapped (*call)(splicebell_layout, uint64_t);
+    uint64_t state;
+};
+
+static void map_one(void *context)
+{
+    struct mapping *m = context;
+    must(m->call(m->y, drawn(&m->state) % 100000000).refusal == 0, "an offset inside");
+}
+
+static int work_on_map(const char *name, long repeats)
+{
+    bool is_ours = strcmp(name, "map:ours") == 0;
+    struct mapping m = {{8, 2, 24, 4096, 2730, 7}, is_ours ? splicebell_map_offset : twin_map_offset, 9};
+    return repeat(map_one, &m, repeats, 1, 1);
+}
+
+static int work_on_catalogue(const char *name, long repeats)
+{
+    char call[20];
+    int n;
+    must(sscanf(name, "catalogue:%19[^:]:%d", call, &n) == 2, name);
+    struct catalogue c = catalogue_of(n);
+    work work = strcmp(call, "lookup") == 0 ? look_up : strcmp(call, "listing") == 0 ? list_16 : insert_and_delete;
+    return repeat(work, &c, repeats, n, 1);
+}
+
+int do_work(const char *name, long repeats)
+{
+    if (strncmp(name, "pool:", 5) == 0)
+        return work_on_pool(name, repeats);
+    if (strncmp(name, "map:", 4) == 0)
+        return work_on_map(name, repeats);
+    if (strncmp(name, "catalogue:", 10) == 0)
+        return work_on_catalogue(name, repeats);
+    return work_on_group(name, repeats);
+}
+
+static void list_groups(void)
+{
+    for (size_t u = 512; u <= 4096; u *= 8)
+        for (size_t c = 0; c < sizeof codes / sizeof *codes; c++)
+            for (size_t i = 0; i < coder_count; i++) {
+                int n = codes[c].n, k = codes[c].k;
+                printf("encode:%d+%d:%zu:%s\n", n, k, u, coders[i]->name);
+                printf("rebuild:%d+%d:%zu:1:%s\n", n, k, u, coders[i]->name);
+                if (k > 1)
+                    printf("rebuild:%d+%d:%zu:%d:%s\n", n, k, u, k, coders[i]->name);
+            }
+}
+
+/* Every pass over the small pool, and three over one of 16 times as many tiles and over others of fewer and more data
+ * units a group. */
+static void list_pools(void)
+{
+    for (size_t i = 0; i < pass_count; i++) {
+        const char *pass = passes[i].name;
+        for (int failed = strcmp(pass, "repair") == 0; failed <= 2; failed++)
+            printf("pool:%s:8+2:20:%d:ours\npool:%s:8+2:20:%d:Rust twin\n", pass, failed, pass, failed);
+    }
+    static const char *const others[] = {"8+2:320", "4+2:20", "16+2:20"};
+    for (size_t i = 0; i < sizeof others / sizeof *others; i++) {
+        const char *pool = others[i];
+        printf("pool:read-4K:%s:0:ours\npool:write-4K:%s:0:ours\npool:repair:%s:1:ours\n", pool, pool, pool);
+    }
+}
+
+int list_works(void)
+{
+    list_groups();
+    list_pools();
+    printf("map:ours\nmap:Rust twin\n");
+    for (int n = 100; n <= 10000; n *= 100)
+        printf("catalogue:lookup:%d\ncatalogue:insert and delete:%d\ncatalogue:listing:%d\n", n, n, n);
+    return 0;
+}

@@ -1,0 +1,120 @@
+//! A plain Rust twin of the calls that are timed, to compare with: the same layout, the same bytes, no proofs and no
+//! tests of what is passed. The C side is declared in `src/twin.h`, with the types of `splicebell.h`.
+
+mod code;
+mod field;
+mod homes;
+mod layout;
+mod pool;
+
+use homes::Record;
+use layout::{Layout, Shape};
+use std::slice::{from_raw_parts, from_raw_parts_mut};
+
+#[repr(C)]
+pub struct Mapped {
+    refusal: u64,
+    group: u64,
+    unit: u64,
+    byte: u64,
+    image: u64,
+}
+
+#[repr(C)]
+pub struct Repaired {
+    refusal: u64,
+    count: u64,
+    record: Record,
+}
+
+/// Answers 0, as every call here: what is passed is taken to be sound.
+///
+/// # Safety
+/// `group` leads to `length` bytes that nothing else touches.
+#[no_mangle]
+pub unsafe extern "C" fn twin_encode(y: Layout, group: *mut u8, length: usize) -> u64 {
+    code::encode(y.n as usize, y.k as usize, y.u as usize, from_raw_parts_mut(group, length));
+    0
+}
+
+/// # Safety
+/// The pointers lead to as many elements as their lengths say; nothing else touches `group`.
+#[no_mangle]
+pub unsafe extern "C" fn twin_rebuild(
+    y: Layout,
+    missing: *const u64,
+    missing_count: usize,
+    group: *mut u8,
+    length: usize,
+) -> u64 {
+    let missing = from_raw_parts(missing, missing_count);
+    code::rebuild(y.n as usize, y.u as usize, missing, from_raw_parts_mut(group, length));
+    0
+}
+
+/// # Safety
+/// The pointers lead to as many bytes as their lengths say; nothing else touches `out`.
+#[no_mangle]
+pub unsafe extern "C" fn twin_read(
+    y: Layout,
+    r: Record,
+    image: *const u8,
+    image_length: usize,
+    offset: u64,
+    out: *mut u8,
+    out_length: usize,
+) -> u64 {
+    pool::read(
+        y,
+        &r,
+        from_raw_parts(image, image_length),
+        offset,
+        from_raw_parts_mut(out, out_length),
+    );
+    0
+}
+
+/// # Safety
+/// The pointers lead to as many bytes as their lengths say; nothing else touches `image`.
+#[no_mangle]
+pub unsafe extern "C" fn twin_write(
+    y: Layout,
+    r: Record,
+    image: *mut u8,
+    image_length: usize,
+    offset: u64,
+    bytes: *const u8,
+    length: usize,
+) -> u64 {
+    pool::write(
+        y,
+        &r,
+        from_raw_parts_mut(image, image_length),
+        offset,
+        from_raw_parts(bytes, length),
+    );
+    0
+}
+
+/// # Safety
+/// `image` leads to `image_length` bytes that nothing else touches.
+#[no_mangle]
+pub unsafe extern "C" fn twin_repair(
+    y: Layout,
+    r: Record,
+    image: *mut u8,
+    image_length: usize,
+) -> Repaired {
+    let count = pool::repair(y, &r, from_raw_parts_mut(image, image_length));
+    Repaired { refusal: 0, count, record: Record { q: r.k, ..r } }
+}
+
+#[no_mangle]
+pub extern "C" fn twin_map_offset(y: Layout, offset: u64) -> Mapped {
+    let data = y.n * y.u;
+    let (group, unit, byte) = (offset / data, offset % data / y.u, offset % y.u);
+    let shape = Shape::of(y);
+    let permutation = shape.permutation(group / shape.groups_in_tile);
+    let place = shape.place(&permutation, group, unit);
+    Mapped { refusal: 0, group, unit, byte, image: shape.image_byte(place) as u64 + byte }
+}

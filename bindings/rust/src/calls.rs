@@ -1,0 +1,143 @@
+//! The calls of the C interface on slices. This is the only module with unsafe code.
+//!
+//! SAFETY, of every call here. The library takes any numbers and any lengths; what is left to the caller is
+//! about memory, and Rust's types give it. A slice is never null, is aligned, and leads to as many elements
+//! as its length says, also where that is 0. A `&mut` slice overlaps no other slice of the call, and no other
+//! thread reads or writes what is lent. The library keeps no pointer after a call, and stores into what is
+//! lent only bytes and numbers of 64 bits, which may hold any value; a `bool` in an answer is 0 or 1. Its
+//! stack is taken page by page, as Rust does it, so too small a stack ends the program at the guard page.
+use crate::raw::*;
+use crate::Entry;
+use std::mem::{align_of, offset_of, size_of};
+
+// An entry of the safe interface is lent to the library as it stands.
+const _: () = {
+    assert!(size_of::<Entry>() == size_of::<splicebell_entry>());
+    assert!(align_of::<Entry>() == align_of::<splicebell_entry>());
+    assert!(offset_of!(Entry, device) == offset_of!(splicebell_entry, device));
+    assert!(offset_of!(Entry, file) == offset_of!(splicebell_entry, file));
+    assert!(offset_of!(Entry, cob) == offset_of!(splicebell_entry, cob));
+};
+
+pub fn measure(y: splicebell_layout) -> splicebell_measured {
+    unsafe { splicebell_measure(y) }
+}
+
+pub fn tile_permutation(y: splicebell_layout, tile: u64) -> splicebell_entries {
+    unsafe { splicebell_tile_permutation(y, tile) }
+}
+
+pub fn tile_inverse(y: splicebell_layout, tile: u64) -> splicebell_entries {
+    unsafe { splicebell_tile_inverse(y, tile) }
+}
+
+pub fn find_place(y: splicebell_layout, group: u64, unit: u64) -> splicebell_placed {
+    unsafe { splicebell_find_place(y, group, unit) }
+}
+
+pub fn find_unit(y: splicebell_layout, frame: u64, target: u64) -> splicebell_held {
+    unsafe { splicebell_find_unit(y, frame, target) }
+}
+
+pub fn map_offset(y: splicebell_layout, offset: u64) -> splicebell_mapped {
+    unsafe { splicebell_map_offset(y, offset) }
+}
+
+pub fn step(y: splicebell_layout, at: splicebell_cursor) -> splicebell_walked {
+    unsafe { splicebell_step(y, at) }
+}
+
+pub fn encode(y: splicebell_layout, buf: &mut [u8]) -> u64 {
+    unsafe { splicebell_encode(y, buf.as_mut_ptr(), buf.len()) }
+}
+
+pub fn rebuild(y: splicebell_layout, missing: &[u64], buf: &mut [u8]) -> u64 {
+    unsafe { splicebell_rebuild(y, missing.as_ptr(), missing.len(), buf.as_mut_ptr(), buf.len()) }
+}
+
+pub fn fail(
+    y: splicebell_layout,
+    r: splicebell_record,
+    image: &[u8],
+    target: u64,
+) -> splicebell_failed {
+    unsafe { splicebell_fail(y, r, image.as_ptr(), image.len(), target) }
+}
+
+pub fn read(
+    y: splicebell_layout,
+    r: splicebell_record,
+    image: &[u8],
+    offset: u64,
+    out: &mut [u8],
+) -> u64 {
+    let (into, room) = (out.as_mut_ptr(), out.len());
+    unsafe { splicebell_read(y, r, image.as_ptr(), image.len(), offset, into, room) }
+}
+
+pub fn write(
+    y: splicebell_layout,
+    r: splicebell_record,
+    image: &mut [u8],
+    offset: u64,
+    bytes: &[u8],
+) -> u64 {
+    let (into, room) = (image.as_mut_ptr(), image.len());
+    unsafe { splicebell_write(y, r, into, room, offset, bytes.as_ptr(), bytes.len()) }
+}
+
+pub fn repair(y: splicebell_layout, r: splicebell_record, image: &mut [u8]) -> splicebell_repaired {
+    unsafe { splicebell_repair(y, r, image.as_mut_ptr(), image.len()) }
+}
+
+pub fn prepare(
+    y: splicebell_layout,
+    r: splicebell_record,
+    image: &[u8],
+    group: u64,
+    content: u64,
+    scratch: &mut [u8],
+) -> u64 {
+    let (into, room) = (scratch.as_mut_ptr(), scratch.len());
+    unsafe { splicebell_prepare(y, r, image.as_ptr(), image.len(), group, content, into, room) }
+}
+
+pub fn show(
+    y: splicebell_layout,
+    r: splicebell_record,
+    image: &[u8],
+    scratch: &[u8],
+    group: u64,
+    content: u64,
+) -> splicebell_shown {
+    let (unit, length) = (scratch.as_ptr(), scratch.len());
+    unsafe { splicebell_show(y, r, image.as_ptr(), image.len(), unit, length, group, content) }
+}
+
+pub fn lookup(slots: &[Entry], n: usize, key: splicebell_key) -> splicebell_found {
+    unsafe { splicebell_lookup(slots.as_ptr().cast(), slots.len(), n, key) }
+}
+
+pub fn insert(slots: &mut [Entry], n: usize, record: splicebell_entry) -> splicebell_changed {
+    unsafe { splicebell_insert(slots.as_mut_ptr().cast(), slots.len(), n, record) }
+}
+
+pub fn delete(slots: &mut [Entry], n: usize, record: splicebell_entry) -> splicebell_changed {
+    unsafe { splicebell_delete(slots.as_mut_ptr().cast(), slots.len(), n, record) }
+}
+
+pub fn listing(slots: &[Entry], n: usize, key: splicebell_key, out: &mut [u64]) -> splicebell_page {
+    let (into, room) = (out.as_mut_ptr(), out.len());
+    unsafe { splicebell_listing(slots.as_ptr().cast(), slots.len(), n, key, into, room) }
+}
+
+pub fn hex_line(
+    y: splicebell_layout,
+    image: &[u8],
+    target: u64,
+    frame: u64,
+    line: &mut [u8],
+) -> u64 {
+    let (into, room) = (line.as_mut_ptr(), line.len());
+    unsafe { splicebell_hex_line(y, image.as_ptr(), image.len(), target, frame, into, room) }
+}

@@ -1,0 +1,225 @@
+use crate::calls;
+use crate::raw;
+use crate::refusal::{answered, Result};
+
+/// The six numbers of a layout. Any values may stand here; a call refuses those outside the bounds.
+///
+/// ```
+/// use splicebell::Layout;
+///
+/// let layout = Layout { n: 4, k: 2, p: 20, u: 512, t: 3, cookie: 0 };
+/// let numbers = layout.measure()?;
+/// assert_eq!((numbers.w, numbers.b, numbers.l, numbers.c), (8, 40, 2, 5));
+/// assert_eq!(numbers.capacity, 3 * 5 * 4 * 512);
+/// # Ok::<(), splicebell::Refusal>(())
+/// ```
+#[derive(Clone, Copy, Debug, Default, PartialEq, Eq, Hash)]
+pub struct Layout {
+    /// N: data units a group, 1 to 16.
+    pub n: u64,
+    /// K: parity units a group and as many spares, 0 to 3.
+    pub k: u64,
+    /// P: targets, N+2K to 64.
+    pub p: u64,
+    /// U: bytes a unit, 1 to 4,096.
+    pub u: u64,
+    /// T: tiles, 1 to 65,536.
+    pub t: u64,
+    /// Where the permutations of the tiles start; any number.
+    pub cookie: u64,
+}
+
+/// What follows from a layout.
+#[derive(Clone, Copy, Debug, PartialEq, Eq, Hash)]
+pub struct Numbers {
+    /// W = N+2K: units a group.
+    pub w: u64,
+    /// B: the least common multiple of W and P.
+    pub b: u64,
+    /// L = B/P: rows a tile.
+    pub l: u64,
+    /// C = B/W: groups a tile.
+    pub c: u64,
+    /// L·T: frames of a target.
+    pub frames: u64,
+    /// T·C: groups of the pool.
+    pub groups: u64,
+    /// T·C·N·U: bytes of the file.
+    pub capacity: u64,
+    /// P·L·T·U: bytes of the image.
+    pub image: u64,
+}
+
+/// Where a unit lies.
+#[derive(Clone, Copy, Debug, PartialEq, Eq, Hash)]
+pub struct Place {
+    /// The frame of its target.
+    pub frame: u64,
+    /// The target.
+    pub target: u64,
+    /// The byte of the image at which the unit begins.
+    pub begins: u64,
+}
+
+/// One unit of one group: data from 0, then parity, then spares.
+#[derive(Clone, Copy, Debug, PartialEq, Eq, Hash)]
+pub struct Unit {
+    /// The group.
+    pub group: u64,
+    /// The unit of the group.
+    pub unit: u64,
+}
+
+/// Where a byte of the file lies.
+#[derive(Clone, Copy, Debug, PartialEq, Eq, Hash)]
+pub struct Mapped {
+    /// The group.
+    pub group: u64,
+    /// The unit of the group.
+    pub unit: u64,
+    /// The byte of the unit.
+    pub byte: u64,
+    /// The byte of the image, while nothing has failed.
+    pub image: u64,
+}
+
+/// A place of a walk: the next frame to visit on a target.
+#[derive(Clone, Copy, Debug, PartialEq, Eq, Hash)]
+pub struct Cursor {
+    /// The target.
+    pub target: u64,
+    /// The frame.
+    pub frame: u64,
+}
+
+impl Layout {
+    /// All numbers that follow from the layout.
+    pub fn measure(&self) -> Result<Numbers> {
+        let raw::splicebell_measured { refusal, numbers } = calls::measure(self.to_raw());
+        let raw::splicebell_numbers { w, b, l, c, frames, groups, capacity, image } = numbers;
+        answered(refusal, Numbers { w, b, l, c, frames, groups, capacity, image })
+    }
+
+    /// The permutation of a tile: entry t is the target of column t, those from P on hold their own index.
+    ///
+    /// ```
+    /// let layout = splicebell::Layout { n: 1, k: 0, p: 4, u: 1, t: 1, cookie: 0 };
+    /// assert_eq!(layout.permutation(0)?[..4], [2, 1, 3, 0]);
+    /// assert_eq!(layout.inverse(0)?[..4], [3, 1, 0, 2]);
+    /// # Ok::<(), splicebell::Refusal>(())
+    /// ```
+    pub fn permutation(&self, tile: u64) -> Result<[u8; 64]> {
+        let answer = calls::tile_permutation(self.to_raw(), tile);
+        answered(answer.refusal, answer.entries)
+    }
+
+    /// What undoes the permutation of a tile: entry t is the column of target t.
+    pub fn inverse(&self, tile: u64) -> Result<[u8; 64]> {
+        let answer = calls::tile_inverse(self.to_raw(), tile);
+        answered(answer.refusal, answer.entries)
+    }
+
+    /// Where a unit lies.
+    pub fn place(&self, group: u64, unit: u64) -> Result<Place> {
+        let raw::splicebell_placed { refusal, frame, target, begins } =
+            calls::find_place(self.to_raw(), group, unit);
+        answered(refusal, Place { frame, target, begins })
+    }
+
+    /// The unit that lies at a frame of a target: what undoes [`Layout::place`].
+    pub fn unit_at(&self, frame: u64, target: u64) -> Result<Unit> {
+        let raw::splicebell_held { refusal, group, unit } =
+            calls::find_unit(self.to_raw(), frame, target);
+        answered(refusal, Unit { group, unit })
+    }
+
+    /// Where a byte of the file lies.
+    ///
+    /// ```
+    /// let layout = splicebell::Layout { n: 1, k: 1, p: 4, u: 4, t: 1, cookie: 0 };
+    /// let mapped = layout.map(9)?;
+    /// assert_eq!((mapped.group, mapped.unit, mapped.byte, mapped.image), (2, 0, 1, 41));
+    /// # Ok::<(), splicebell::Refusal>(())
+    /// ```
+    pub fn map(&self, offset: u64) -> Result<Mapped> {
+        let raw::splicebell_mapped { refusal, group, unit, byte, image } =
+            calls::map_offset(self.to_raw(), offset);
+        answered(refusal, Mapped { group, unit, byte, image })
+    }
+
+    /// One step of a walk: the unit at the cursor with the next cursor, or none behind the last frame.
+    pub fn step(&self, at: Cursor) -> Result<Option<(Unit, Cursor)>> {
+        let Cursor { target, frame } = at;
+        let walked = calls::step(self.to_raw(), raw::splicebell_cursor { target, frame });
+        let raw::splicebell_unit { group, unit } = walked.held;
+        let raw::splicebell_cursor { target, frame } = walked.next;
+        let found = (Unit { group, unit }, Cursor { target, frame });
+        answered(walked.refusal, (!walked.done).then_some(found))
+    }
+
+    /// A walk over one target: every frame with the unit that lies there, frames rising.
+    ///
+    /// ```
+    /// let layout = splicebell::Layout { n: 1, k: 1, p: 4, u: 4, t: 1, cookie: 0 };
+    /// let held = layout.walk(2).map(|found| found.map(|(frame, at)| (frame, at.group, at.unit)));
+    /// let held: Vec<_> = held.collect::<Result<_, _>>()?;
+    /// assert_eq!(held, [(0, 0, 0), (1, 1, 1), (2, 2, 2)]);
+    /// # Ok::<(), splicebell::Refusal>(())
+    /// ```
+    pub fn walk(&self, target: u64) -> Walk {
+        Walk { layout: *self, at: Some(Cursor { target, frame: 0 }) }
+    }
+
+    /// Sets the K parity units of a group's (N+K)·U bytes from its N data units.
+    ///
+    /// ```
+    /// let layout = splicebell::Layout { n: 2, k: 2, p: 6, u: 1, t: 1, cookie: 0 };
+    /// let mut group = [0, 2, 0, 0];
+    /// layout.encode(&mut group)?;
+    /// assert_eq!(group, [0, 2, 2, 205]);
+    /// group[1] = 99;
+    /// group[3] = 99;
+    /// layout.rebuild(&[1, 3], &mut group)?;
+    /// assert_eq!(group, [0, 2, 2, 205]);
+    /// # Ok::<(), splicebell::Refusal>(())
+    /// ```
+    pub fn encode(&self, group: &mut [u8]) -> Result<()> {
+        answered(calls::encode(self.to_raw(), group), ())
+    }
+
+    /// Fills the missing units of a group's (N+K)·U bytes from the N lowest others.
+    pub fn rebuild(&self, missing: &[u64], group: &mut [u8]) -> Result<()> {
+        answered(calls::rebuild(self.to_raw(), missing, group), ())
+    }
+
+    pub(crate) fn to_raw(self) -> raw::splicebell_layout {
+        let Layout { n, k, p, u, t, cookie } = self;
+        raw::splicebell_layout { n, k, p, u, t, cookie }
+    }
+}
+
+/// A walk over one target, made by [`Layout::walk`]: each frame with the unit that lies there. A walk that is
+/// refused says so once, and then ends.
+#[derive(Clone, Debug)]
+pub struct Walk {
+    layout: Layout,
+    at: Option<Cursor>,
+}
+
+impl Iterator for Walk {
+    type Item = Result<(u64, Unit)>;
+
+    fn next(&mut self) -> Option<Self::Item> {
+        let at = self.at.take()?;
+        match self.layout.step(at) {
+            Ok(Some((unit, next))) => {
+                self.at = Some(next);
+                Some(Ok((at.frame, unit)))
+            }
+            Ok(None) => None,
+            Err(refusal) => Some(Err(refusal)),
+        }
+    }
+}
+
+impl std::iter::FusedIterator for Walk {}

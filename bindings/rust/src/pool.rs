@@ -1,0 +1,167 @@
+use crate::calls;
+use crate::layout::Layout;
+use crate::raw;
+use crate::refusal::{answered, Result};
+
+/// The failure record: which targets have failed, in order, and how many of them have been repaired.
+///
+/// Any values may stand here, for instance those that a caller kept over a restart.
+#[derive(Clone, Copy, Debug, Default, PartialEq, Eq, Hash)]
+pub struct Record {
+    /// The failed targets; those from `k` on are never read.
+    pub failed: [u64; 3],
+    /// How many targets have failed.
+    pub k: u64,
+    /// How many of them, from the first on, have been repaired.
+    pub q: u64,
+}
+
+impl Record {
+    fn to_raw(self) -> raw::splicebell_record {
+        let Record { failed, k, q } = self;
+        raw::splicebell_record { failed, k, q }
+    }
+
+    fn from_raw(record: raw::splicebell_record) -> Record {
+        let raw::splicebell_record { failed, k, q } = record;
+        Record { failed, k, q }
+    }
+}
+
+/// A pool: a layout, a failure record and a lent image.
+///
+/// ```
+/// use splicebell::{Layout, Pool, Refusal};
+///
+/// let layout = Layout { n: 1, k: 1, p: 3, u: 2, t: 1, cookie: 0 };
+/// let mut image = [0; 6];
+/// let mut pool = Pool::new(layout, &mut image);
+/// pool.write(0, &[0x41, 0x42])?;
+/// pool.fail(1)?;
+/// assert_eq!(pool.fail(2), Err(Refusal::Dud));
+/// assert_eq!(pool.repair()?, 1);
+/// assert_eq!(pool.record().q, 1);
+/// # Ok::<(), Refusal>(())
+/// ```
+#[derive(Debug)]
+pub struct Pool<'a> {
+    layout: Layout,
+    record: Record,
+    image: &'a mut [u8],
+}
+
+impl<'a> Pool<'a> {
+    /// A pool on which nothing has failed. An image of zeros holds a file of zeros.
+    pub fn new(layout: Layout, image: &'a mut [u8]) -> Pool<'a> {
+        Pool::with_record(layout, Record::default(), image)
+    }
+
+    /// A pool with the record that an earlier [`Pool::record`] gave.
+    pub fn with_record(layout: Layout, record: Record, image: &'a mut [u8]) -> Pool<'a> {
+        Pool { layout, record, image }
+    }
+
+    /// The layout.
+    pub fn layout(&self) -> Layout {
+        self.layout
+    }
+
+    /// The failure record.
+    pub fn record(&self) -> Record {
+        self.record
+    }
+
+    /// The image.
+    pub fn image(&self) -> &[u8] {
+        self.image
+    }
+
+    /// The image, to be changed: any bytes make an image.
+    pub fn image_mut(&mut self) -> &mut [u8] {
+        self.image
+    }
+
+    /// The bytes of the file from `offset` on, missing contents rebuilt. Refused: `out` is all zeros.
+    ///
+    /// ```
+    /// use splicebell::{Layout, Pool, Refusal};
+    ///
+    /// let mut image = [7; 6];
+    /// let pool = Pool::new(Layout { n: 1, k: 1, p: 3, u: 2, t: 1, cookie: 0 }, &mut image);
+    /// let mut too_long = [9; 3];
+    /// assert_eq!(pool.read(0, &mut too_long), Err(Refusal::Outside));
+    /// assert_eq!(too_long, [0; 3]);
+    /// ```
+    pub fn read(&self, offset: u64, out: &mut [u8]) -> Result<()> {
+        let (y, r) = self.to_raw();
+        answered(calls::read(y, r, self.image, offset, out), ())
+    }
+
+    /// Stores bytes at an offset of the file, with the parity that belongs to them.
+    pub fn write(&mut self, offset: u64, bytes: &[u8]) -> Result<()> {
+        let (y, r) = self.to_raw();
+        answered(calls::write(y, r, self.image, offset, bytes), ())
+    }
+
+    /// Enters a failed target into the record.
+    pub fn fail(&mut self, target: u64) -> Result<()> {
+        let (y, r) = self.to_raw();
+        let answer = calls::fail(y, r, self.image, target);
+        self.record = Record::from_raw(answer.record);
+        answered(answer.refusal, ())
+    }
+
+    /// Stores every missing content at its new home; answers how many there were.
+    pub fn repair(&mut self) -> Result<u64> {
+        let (y, r) = self.to_raw();
+        let answer = calls::repair(y, r, self.image);
+        self.record = Record::from_raw(answer.record);
+        answered(answer.refusal, answer.count)
+    }
+
+    /// The U bytes of one content: a part of the image, or of the scratch of U bytes where it is missing and
+    /// had to be rebuilt. Where the content is present or the look is refused, the scratch is all zeros.
+    ///
+    /// ```
+    /// use splicebell::{Layout, Pool};
+    ///
+    /// let mut image = [0; 6];
+    /// let mut pool = Pool::new(Layout { n: 1, k: 1, p: 3, u: 2, t: 1, cookie: 0 }, &mut image);
+    /// pool.write(0, &[5, 6])?;
+    /// let mut scratch = [0; 2];
+    /// assert_eq!(pool.look(0, 0, &mut scratch)?, [5, 6]);
+    /// assert_eq!(scratch, [0, 0]);
+    /// pool.fail(1)?;
+    /// assert_eq!(pool.look(0, 0, &mut scratch)?, [5, 6]);
+    /// assert_eq!(scratch, [5, 6]);
+    /// # Ok::<(), splicebell::Refusal>(())
+    /// ```
+    pub fn look<'s>(&'s self, group: u64, content: u64, scratch: &'s mut [u8]) -> Result<&'s [u8]> {
+        let (y, r) = self.to_raw();
+        answered(calls::prepare(y, r, self.image, group, content, scratch), ())?;
+        let shown = calls::show(y, r, self.image, scratch, group, content);
+        let holder = if shown.missing { scratch } else { &*self.image };
+        answered(shown.refusal, &holder[shown.begins..shown.begins + shown.length])
+    }
+
+    /// Writes the hex line of a frame, 11+2U bytes with the newline. Refused: `line` is all zeros.
+    ///
+    /// ```
+    /// use splicebell::{Layout, Pool};
+    ///
+    /// let mut image = [0; 6];
+    /// let mut pool = Pool::new(Layout { n: 1, k: 1, p: 3, u: 2, t: 1, cookie: 0 }, &mut image);
+    /// pool.write(0, &[0x41, 0x42])?;
+    /// let mut line = [0; 15];
+    /// pool.hex_line(1, 0, &mut line)?;
+    /// assert_eq!(&line, b"01 000000 4142\n");
+    /// # Ok::<(), splicebell::Refusal>(())
+    /// ```
+    pub fn hex_line(&self, target: u64, frame: u64, line: &mut [u8]) -> Result<()> {
+        answered(calls::hex_line(self.layout.to_raw(), self.image, target, frame, line), ())
+    }
+
+    fn to_raw(&self) -> (raw::splicebell_layout, raw::splicebell_record) {
+        (self.layout.to_raw(), self.record.to_raw())
+    }
+}

@@ -1,0 +1,149 @@
+//! The header, these bindings and the Rattle sources agree: layouts of structs, functions with their
+//! parameters, refusal numbers.
+mod c_side;
+mod refusals;
+mod sources;
+
+use sources::{
+    all_rattle, c_functions, c_structs, exported, file, functions, structs, Functions, Structs,
+};
+use splicebell::raw::*;
+use std::mem::{align_of, offset_of, size_of};
+
+const HEADER: &str = "include/splicebell.h";
+const DECLARATIONS: &str = "bindings/rust/src/raw.rs";
+const EXPORTS: &str = "crates/abi/src/lib.rt";
+
+fn size_of_field<S, F>(_field: impl Fn(&S) -> &F) -> usize {
+    size_of::<F>()
+}
+
+/// One line for a struct and one for each of its fields, as the C program prints them.
+macro_rules! lines_of {
+    ($($name:ident { $($field:ident)* })*) => {
+        vec![$(
+            format!("{} {} {}", stringify!($name), size_of::<$name>(), align_of::<$name>()),
+            $(format!(
+                "{}.{} {} {}",
+                stringify!($name),
+                stringify!($field),
+                offset_of!($name, $field),
+                size_of_field(|s: &$name| &s.$field)
+            ),)*
+        )*]
+    };
+}
+
+fn rust_lines() -> Vec<String> {
+    lines_of! {
+        splicebell_layout { n k p u t cookie }
+        splicebell_record { failed k q }
+        splicebell_numbers { w b l c frames groups capacity image }
+        splicebell_measured { refusal numbers }
+        splicebell_entries { refusal entries }
+        splicebell_placed { refusal frame target begins }
+        splicebell_held { refusal group unit }
+        splicebell_mapped { refusal group unit byte image }
+        splicebell_unit { group unit }
+        splicebell_cursor { target frame }
+        splicebell_walked { refusal done held next }
+        splicebell_failed { refusal record }
+        splicebell_repaired { refusal count record }
+        splicebell_shown { refusal missing begins length }
+        splicebell_entry { device file cob }
+        splicebell_key { device file }
+        splicebell_found { refusal cob }
+        splicebell_changed { refusal count }
+        splicebell_page { refusal count more next }
+    }
+}
+
+fn c_lines(beginning: &str) -> Vec<String> {
+    c_side::printed().iter().filter(|line| line.starts_with(beginning)).cloned().collect()
+}
+
+#[test]
+fn structs_lie_alike_in_c_and_rust() {
+    let mut c = c_lines("splicebell_");
+    let mut rust = rust_lines();
+    c.sort();
+    rust.sort();
+    assert_eq!(c, rust);
+}
+
+#[test]
+fn the_table_of_the_docs_has_these_sizes_and_offsets() {
+    let docs = file("docs/ABI.md");
+    let printed = c_side::printed();
+    let value = |name: &str| -> Vec<&str> {
+        let line = printed.iter().find(|l| l.split(' ').next() == Some(name)).expect("C prints it");
+        line.split(' ').skip(1).collect()
+    };
+    for (name, fields) in c_structs(&file(HEADER)) {
+        let whole = format!("splicebell_{name}");
+        let offset = |field: &str| format!("`{field}` {}", value(&format!("{whole}.{field}"))[0]);
+        let offsets: Vec<_> = fields.iter().map(|(field, _)| offset(field)).collect();
+        let row = format!("| `{whole}` | {} | {} |\n", value(&whole)[0], offsets.join(", "));
+        assert!(docs.contains(&row), "docs/ABI.md does not say: {row}");
+        assert_eq!(value(&whole)[1], "8", "docs/ABI.md says that {whole} is aligned to 8");
+    }
+}
+
+#[test]
+fn enum_values_are_the_refusal_numbers() {
+    assert_eq!(c_lines("SPLICEBELL_"), refusals::as_c_names());
+}
+
+#[test]
+fn structs_have_the_same_fields_in_all_three() {
+    let header = c_structs(&file(HEADER));
+    assert_eq!(header, structs(&file(DECLARATIONS)));
+    let mut rattle = structs(&all_rattle());
+    rattle.retain(|name, _| header.contains_key(name));
+    assert_eq!(header, with_c_field_names(rattle));
+}
+
+/// `record` is a word of the prover's, so Rattle calls such a field `rec`.
+fn with_c_field_names(mut structs: Structs) -> Structs {
+    for (name, _) in structs.values_mut().flatten() {
+        if name == "rec" {
+            *name = "record".into();
+        }
+    }
+    structs
+}
+
+#[test]
+fn functions_are_the_same_in_all_three() {
+    let header = c_functions(&file(HEADER));
+    assert_eq!(header, functions(&file(DECLARATIONS)));
+    let rattle = file(EXPORTS);
+    let mut marked = exported(&rattle);
+    marked.sort();
+    assert_eq!(header.keys().cloned().collect::<Vec<_>>(), marked);
+    assert_eq!(with_common_names(header), with_common_names(functions(&rattle)));
+}
+
+/// Rattle has no names for the lengths of slices, and shorter ones for a catalogue's slots and record.
+fn with_common_names(mut functions: Functions) -> Functions {
+    for function in functions.values_mut() {
+        let mut after_pointer = false;
+        for (name, of) in &mut function.parameters {
+            let common = match (name.as_str(), of.as_str()) {
+                (_, "usize") if after_pointer => "length",
+                ("s", "*const entry" | "*mut entry") => "slots",
+                ("r", "entry") => "record",
+                _ => name.as_str(),
+            };
+            after_pointer = of.starts_with('*');
+            *name = common.to_string();
+        }
+    }
+    functions
+}
+
+#[test]
+fn the_sources_were_read() {
+    assert_eq!(c_functions(&file(HEADER)).len(), 20);
+    assert_eq!(c_structs(&file(HEADER)).len(), 19);
+}

@@ -1,0 +1,77 @@
+//! Each refusal is provoked once in the library and met under its name, number and words.
+use crate::sources::file;
+use splicebell::{Catalogue, Entry, Key, Layout, Pool, Record, Refusal};
+
+const LAYOUT: Layout = Layout { n: 1, k: 1, p: 4, u: 4, t: 1, cookie: 0 };
+const IMAGE_LENGTH: usize = 48;
+
+/// The names and numbers as the C program prints those of the header.
+pub fn as_c_names() -> Vec<String> {
+    let accepted = "SPLICEBELL_ACCEPTED 0".to_string();
+    let named = |refusal: Refusal| {
+        let mut name = String::from("SPLICEBELL");
+        for letter in format!("{refusal:?}").chars() {
+            if letter.is_uppercase() {
+                name.push('_');
+            }
+            name.push(letter.to_ascii_uppercase());
+        }
+        format!("{name} {}", refusal.number())
+    };
+    [accepted].into_iter().chain(Refusal::ALL.map(named)).collect()
+}
+
+fn on_a_pool<T>(record: Record, call: impl Fn(&mut Pool) -> Result<T, Refusal>) -> Option<Refusal> {
+    let mut image = [0; IMAGE_LENGTH];
+    call(&mut Pool::with_record(LAYOUT, record, &mut image)).err()
+}
+
+fn on_a_full_catalogue<T>(call: impl Fn(&mut Catalogue) -> Result<T, Refusal>) -> Option<Refusal> {
+    let mut slots = [Entry { device: 1, file: 1, cob: 1 }];
+    call(&mut Catalogue::new(&mut slots, 1)).err()
+}
+
+/// What the library says to a call of each kind, in the order of document 01's table.
+fn provoked() -> [Option<Refusal>; 11] {
+    let nothing_failed = Record::default();
+    let one_failed = Record { failed: [2, 0, 0], k: 1, q: 0 };
+    let repaired_unfailed = Record { failed: [0; 3], k: 0, q: 1 };
+    [
+        Layout { p: 65, ..LAYOUT }.measure().err(),
+        Pool::new(LAYOUT, &mut [0; IMAGE_LENGTH - 1]).write(0, &[1]).err(),
+        on_a_pool(repaired_unfailed, |pool| pool.repair()),
+        on_a_pool(nothing_failed, |pool| pool.read(16, &mut [1])),
+        on_a_pool(nothing_failed, |pool| pool.look(0, 0, &mut [1; 5]).map(|_| ())),
+        on_a_pool(one_failed, |pool| pool.fail(2)),
+        on_a_pool(one_failed, |pool| pool.fail(3)),
+        LAYOUT.rebuild(&[0, 1], &mut [0; 8]).err(),
+        Catalogue::new(&mut [], 1).lookup(Key::default()).err(),
+        on_a_full_catalogue(|catalogue| catalogue.insert(Entry { device: 2, file: 1, cob: 1 })),
+        on_a_full_catalogue(|catalogue| catalogue.delete(Entry { device: 1, file: 1, cob: 2 })),
+    ]
+}
+
+#[test]
+fn the_library_answers_each_number() {
+    assert_eq!(provoked(), Refusal::ALL.map(Some));
+}
+
+#[test]
+fn numbers_lead_back_to_their_refusal() {
+    for (refusal, number) in Refusal::ALL.into_iter().zip(1..) {
+        assert_eq!(refusal.number(), number);
+        assert_eq!(Refusal::from_number(number), Some(refusal));
+    }
+    assert_eq!(Refusal::from_number(0), None);
+    assert_eq!(Refusal::from_number(12), None);
+}
+
+/// docs/TRACE.md quotes document 01's table as `number: words`.
+#[test]
+fn the_words_are_document_01s() {
+    let trace = file("docs/TRACE.md");
+    for refusal in Refusal::ALL {
+        let quoted = format!(" {}: {refusal}", refusal.number());
+        assert!(trace.contains(&quoted), "docs/TRACE.md does not say{quoted}");
+    }
+}

@@ -1,0 +1,190 @@
+//! The safe interface on a small pool and a small catalogue.
+use splicebell::{Catalogue, Cursor, Entry, Key, Layout, Page, Pool, Record, Refusal, Unit};
+
+/// Two data, two parity and two spare units a group over seven targets.
+const LAYOUT: Layout = Layout { n: 2, k: 2, p: 7, u: 3, t: 2, cookie: 11 };
+
+fn blank_image() -> Vec<u8> {
+    vec![0; LAYOUT.measure().expect("the layout is good").image as usize]
+}
+
+fn photograph(length: usize) -> Vec<u8> {
+    (0..length).map(|i| (i * 37 + 5) as u8).collect()
+}
+
+/// What stood on a dead drive is gone.
+fn scribble(pool: &mut Pool, target: u64) {
+    let drive = pool.image().len() / LAYOUT.p as usize;
+    pool.image_mut()[target as usize * drive..][..drive].fill(0xee);
+}
+
+#[test]
+fn a_pool_outlives_two_drives() -> Result<(), Refusal> {
+    let mut image = blank_image();
+    let mut pool = Pool::new(LAYOUT, &mut image);
+    let capacity = LAYOUT.measure()?.capacity as usize;
+    let mut file = photograph(capacity);
+    pool.write(0, &file)?;
+    for target in [5, 1] {
+        pool.fail(target)?;
+        scribble(&mut pool, target);
+    }
+    pool.write(4, b"again")?;
+    file[4..9].copy_from_slice(b"again");
+    let mut seen = vec![0; capacity];
+    pool.read(0, &mut seen)?;
+    assert_eq!(seen, file);
+    assert_eq!(pool.fail(0), Err(Refusal::Dud));
+    assert!(pool.repair()? > 0);
+    assert_eq!(pool.record(), Record { failed: [5, 1, 0], k: 2, q: 2 });
+    assert_eq!(pool.repair()?, 0);
+    pool.read(0, &mut seen)?;
+    assert_eq!(seen, file);
+    Ok(())
+}
+
+#[test]
+fn a_look_shows_the_image_or_the_scratch() -> Result<(), Refusal> {
+    let mut image = blank_image();
+    let mut pool = Pool::new(LAYOUT, &mut image);
+    pool.write(0, &photograph(12))?;
+    let place = LAYOUT.place(1, 0)?;
+    let mut scratch = [9; 3];
+    assert_eq!(pool.look(1, 0, &mut scratch)?, &photograph(12)[6..9]);
+    assert_eq!(scratch, [0; 3]);
+    assert_eq!(pool.look(1, 0, &mut scratch)?.as_ptr(), &pool.image()[place.begins as usize]);
+    pool.fail(place.target)?;
+    scribble(&mut pool, place.target);
+    assert_eq!(pool.look(1, 0, &mut scratch)?, &photograph(12)[6..9]);
+    assert_eq!(scratch, photograph(12)[6..9]);
+    assert_eq!(pool.look(1, 4, &mut scratch), Err(Refusal::Outside));
+    assert_eq!(scratch, [0; 3]);
+    Ok(())
+}
+
+#[test]
+fn a_walk_visits_each_frame_once() -> Result<(), Refusal> {
+    let frames = LAYOUT.measure()?.frames;
+    let found = LAYOUT.walk(3).collect::<Result<Vec<_>, _>>()?;
+    assert_eq!(found.len() as u64, frames);
+    for (frame, (at, unit)) in (0..).zip(found) {
+        assert_eq!(at, frame);
+        assert_eq!(LAYOUT.unit_at(frame, 3)?, unit);
+        let place = LAYOUT.place(unit.group, unit.unit)?;
+        assert_eq!((place.frame, place.target), (frame, 3));
+    }
+    assert_eq!(LAYOUT.step(Cursor { target: 3, frame: frames })?, None);
+    let beyond = Cursor { target: 3, frame: frames + 1 };
+    assert_eq!(LAYOUT.step(beyond), Err(Refusal::Outside));
+    let mut outside = LAYOUT.walk(7);
+    assert_eq!(outside.next(), Some(Err(Refusal::Outside)));
+    assert_eq!(outside.next(), None);
+    Ok(())
+}
+
+#[test]
+fn places_and_offsets_lead_to_each_other() -> Result<(), Refusal> {
+    let (permutation, inverse) = (LAYOUT.permutation(1)?, LAYOUT.inverse(1)?);
+    for column in 0..64 {
+        assert_eq!(inverse[permutation[column] as usize] as usize, column);
+    }
+    let mapped = LAYOUT.map(10)?;
+    assert_eq!((mapped.group, mapped.unit, mapped.byte), (1, 1, 1));
+    let place = LAYOUT.place(mapped.group, mapped.unit)?;
+    assert_eq!(mapped.image, place.begins + mapped.byte);
+    assert_eq!(LAYOUT.unit_at(place.frame, place.target)?, Unit { group: 1, unit: 1 });
+    assert_eq!(LAYOUT.permutation(2), Err(Refusal::Outside));
+    Ok(())
+}
+
+#[test]
+fn refused_calls_leave_zeros_in_outputs_and_the_rest_alone() {
+    let mut image = blank_image();
+    image.fill(1);
+    let mut pool = Pool::with_record(LAYOUT, Record { failed: [4; 3], k: 2, q: 1 }, &mut image);
+    let mut out = [8; 5];
+    assert_eq!(pool.read(0, &mut out), Err(Refusal::BadRecord));
+    assert_eq!(out, [0; 5]);
+    out.fill(8);
+    assert_eq!(pool.hex_line(0, 0, &mut out), Err(Refusal::BadBufferLength));
+    assert_eq!(out, [0; 5]);
+    out.fill(8);
+    assert_eq!(pool.look(0, 0, &mut out), Err(Refusal::BadRecord));
+    assert_eq!(out, [0; 5]);
+    let record = pool.record();
+    assert_eq!(pool.write(0, &[2]), Err(Refusal::BadRecord));
+    assert_eq!(pool.repair(), Err(Refusal::BadRecord));
+    assert_eq!(pool.fail(6), Err(Refusal::BadRecord));
+    assert_eq!(pool.record(), record);
+    assert!(image.iter().all(|byte| *byte == 1));
+    let mut group = [8; 11];
+    assert_eq!(LAYOUT.encode(&mut group), Err(Refusal::BadBufferLength));
+    assert_eq!(LAYOUT.rebuild(&[4], &mut group), Err(Refusal::Outside));
+    assert_eq!(group, [8; 11]);
+}
+
+#[test]
+fn empty_ranges_are_taken_anywhere_inside() -> Result<(), Refusal> {
+    let mut image = blank_image();
+    let mut pool = Pool::new(LAYOUT, &mut image);
+    let capacity = LAYOUT.measure()?.capacity;
+    pool.write(capacity, &[])?;
+    pool.read(capacity, &mut [])?;
+    assert_eq!(pool.read(capacity + 1, &mut []), Err(Refusal::Outside));
+    Ok(())
+}
+
+#[test]
+fn a_catalogue_keeps_its_order() -> Result<(), Refusal> {
+    let mut slots = [Entry::default(); 4];
+    let mut catalogue = Catalogue::new(&mut slots, 0);
+    for (device, file, cob) in [(2, 7, 70), (2, 0, 10), (1, 9, 90), (2, 7, 71)] {
+        catalogue.insert(Entry { device, file, cob })?;
+    }
+    assert_eq!(catalogue.count(), 3);
+    assert_eq!(catalogue.lookup(Key { device: 2, file: 7 })?, 71);
+    let mut cobs = [5; 3];
+    let all = catalogue.listing(Key { device: 2, file: 0 }, &mut cobs)?;
+    assert_eq!((all, cobs), (Page { count: 2, next: None }, [10, 71, 5]));
+    let none_fit = catalogue.listing(Key { device: 2, file: 0 }, &mut [])?;
+    assert_eq!(none_fit, Page { count: 0, next: Some(0) });
+    let other_cob = Entry { device: 1, file: 9, cob: 91 };
+    assert_eq!(catalogue.delete(other_cob), Err(Refusal::NoSuchRecord));
+    catalogue.delete(Entry { cob: 90, ..other_cob })?;
+    assert_eq!(catalogue.count(), 2);
+    assert_eq!(catalogue.slots()[2..], [Entry::default(); 2]);
+    Ok(())
+}
+
+#[test]
+fn a_bad_catalogue_is_refused_and_kept() {
+    let falling = [Entry { device: 2, file: 0, cob: 1 }, Entry { device: 1, file: 0, cob: 2 }];
+    let mut slots = falling;
+    let mut catalogue = Catalogue::new(&mut slots, 2);
+    let mut cobs = [5; 2];
+    let listed = catalogue.listing(Key { device: 2, file: 0 }, &mut cobs);
+    assert_eq!((listed, cobs), (Err(Refusal::BadCatalogue), [0; 2]));
+    assert_eq!(catalogue.insert(falling[0]), Err(Refusal::BadCatalogue));
+    assert_eq!(catalogue.delete(falling[0]), Err(Refusal::BadCatalogue));
+    assert_eq!((catalogue.count(), catalogue.slots()), (2, &falling[..]));
+}
+
+/// docs/ABI.md states what a write, the deepest call, takes.
+#[test]
+fn a_thread_of_64_kib_is_enough() {
+    let largest = Layout { n: 16, k: 3, p: 22, u: 4096, t: 1, cookie: 5 };
+    let deepest_calls = move || -> Result<(), Refusal> {
+        let mut image = vec![0; largest.measure()?.image as usize];
+        let mut pool = Pool::new(largest, &mut image);
+        for target in [3, 7, 11] {
+            pool.fail(target)?;
+        }
+        let mut file = vec![1; 16 * 4096 - 2];
+        pool.write(1, &file)?;
+        pool.repair()?;
+        pool.read(1, &mut file)
+    };
+    let small = std::thread::Builder::new().stack_size(64 * 1024);
+    let thread = small.spawn(deepest_calls).expect("a thread can be made");
+    assert_eq!(thread.join().expect("the thread ends"), Ok(()));
+}

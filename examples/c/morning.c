@@ -1,0 +1,79 @@
+/* A kiosk's morning, called from C. The Rust program in ../rust tells the same story in the same words. */
+#include "splicebell.h"
+
+#include <inttypes.h>
+#include <stdio.h>
+#include <stdlib.h>
+#include <string.h>
+
+/* Two data units, one parity unit and one spare a group, over five drives; units of eight bytes. */
+static const splicebell_layout row = {.n = 2, .k = 1, .p = 5, .u = 8, .t = 1, .cookie = 7};
+static const char first[] = "Mrs Abel: a red suitcase";
+static const char second[] = "Mr Zorn: two skis";
+enum { SECOND_AT = 24, LOST = 2 };
+
+typedef struct pool {
+    splicebell_record record;
+    uint8_t *image;
+    size_t length;
+} pool;
+
+static void accepted(uint64_t refusal) {
+    if (refusal != SPLICEBELL_ACCEPTED) {
+        fprintf(stderr, "refused with %" PRIu64 "\n", refusal);
+        exit(EXIT_FAILURE);
+    }
+}
+
+static void store(pool p, uint64_t at, const char *photograph) {
+    const uint8_t *bytes = (const uint8_t *)photograph;
+    accepted(splicebell_write(row, p.record, p.image, p.length, at, bytes, strlen(photograph)));
+    printf("A kiosk stores \"%s\" at %" PRIu64 ".\n", photograph, at);
+}
+
+static void show(pool p, uint64_t at, size_t bytes) {
+    char photograph[64] = {0};
+    accepted(splicebell_read(row, p.record, p.image, p.length, at, (uint8_t *)photograph, bytes));
+    printf("The claims desk reads \"%s\" at %" PRIu64 ".\n", photograph, at);
+}
+
+static void dump(pool p, uint64_t frames) {
+    uint8_t line[11 + 2 * 8];
+    for (uint64_t target = 0; target < row.p; target++) {
+        for (uint64_t frame = 0; frame < frames; frame++) {
+            accepted(splicebell_hex_line(row, p.image, p.length, target, frame, line, sizeof line));
+            fwrite(line, 1, sizeof line, stdout);
+        }
+    }
+}
+
+int main(void) {
+    splicebell_measured measured = splicebell_measure(row);
+    accepted(measured.refusal);
+    pool p = {.image = calloc(measured.numbers.image, 1), .length = measured.numbers.image};
+    if (p.image == NULL) {
+        return EXIT_FAILURE;
+    }
+    printf("A row of 5 drives holds a file of %" PRIu64 " bytes.\n", measured.numbers.capacity);
+    store(p, 0, first);
+    store(p, SECOND_AT, second);
+
+    splicebell_failed failed = splicebell_fail(row, p.record, p.image, p.length, LOST);
+    accepted(failed.refusal);
+    p.record = failed.record;
+    memset(p.image + LOST * (p.length / row.p), 0xff, p.length / row.p);
+    printf("Drive %d dies, and what stood on it is lost.\n", LOST);
+    show(p, 0, strlen(first));
+    show(p, SECOND_AT, strlen(second));
+
+    splicebell_repaired repaired = splicebell_repair(row, p.record, p.image, p.length);
+    accepted(repaired.refusal);
+    p.record = repaired.record;
+    printf("The row is repaired: %" PRIu64 " units were missing.\n", repaired.count);
+    show(p, 0, strlen(first));
+    show(p, SECOND_AT, strlen(second));
+    printf("The drives now, each line a drive, a frame and its bytes:\n");
+    dump(p, measured.numbers.frames);
+    free(p.image);
+    return EXIT_SUCCESS;
+}

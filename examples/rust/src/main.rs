@@ -1,0 +1,56 @@
+//! A kiosk's morning, called from Rust. The C program in ../c tells the same story in the same words.
+use splicebell::{Layout, Pool, Result};
+
+/// Two data units, one parity unit and one spare a group, over five drives; units of eight bytes.
+const ROW: Layout = Layout { n: 2, k: 1, p: 5, u: 8, t: 1, cookie: 7 };
+const FIRST: &str = "Mrs Abel: a red suitcase";
+const SECOND: &str = "Mr Zorn: two skis";
+const SECOND_AT: u64 = 24;
+const LOST: usize = 2;
+
+fn store(pool: &mut Pool, at: u64, photograph: &str) -> Result<()> {
+    pool.write(at, photograph.as_bytes())?;
+    println!("A kiosk stores \"{photograph}\" at {at}.");
+    Ok(())
+}
+
+fn show(pool: &Pool, at: u64, bytes: usize) -> Result<()> {
+    let mut photograph = vec![0; bytes];
+    pool.read(at, &mut photograph)?;
+    println!("The claims desk reads \"{}\" at {at}.", String::from_utf8_lossy(&photograph));
+    Ok(())
+}
+
+fn dump(pool: &Pool, frames: u64) -> Result<()> {
+    let mut line = [0; 11 + 2 * 8];
+    for target in 0..ROW.p {
+        for frame in 0..frames {
+            pool.hex_line(target, frame, &mut line)?;
+            print!("{}", String::from_utf8_lossy(&line));
+        }
+    }
+    Ok(())
+}
+
+fn main() -> Result<()> {
+    let numbers = ROW.measure()?;
+    let mut image = vec![0; numbers.image as usize];
+    let drive = image.len() / ROW.p as usize;
+    let mut pool = Pool::new(ROW, &mut image);
+    println!("A row of 5 drives holds a file of {} bytes.", numbers.capacity);
+    store(&mut pool, 0, FIRST)?;
+    store(&mut pool, SECOND_AT, SECOND)?;
+
+    pool.fail(LOST as u64)?;
+    pool.image_mut()[LOST * drive..][..drive].fill(0xff);
+    println!("Drive {LOST} dies, and what stood on it is lost.");
+    show(&pool, 0, FIRST.len())?;
+    show(&pool, SECOND_AT, SECOND.len())?;
+
+    let missing = pool.repair()?;
+    println!("The row is repaired: {missing} units were missing.");
+    show(&pool, 0, FIRST.len())?;
+    show(&pool, SECOND_AT, SECOND.len())?;
+    println!("The drives now, each line a drive, a frame and its bytes:");
+    dump(&pool, numbers.frames)
+}
