@@ -1,6 +1,5 @@
 // The record of failed targets, and where the contents of a group live under it.
 use numbers::Layout;
-use numbers::Shape;
 ghost use mathlib.Core.Path.{_≡_};
 ghost use Prim.Native.Nat.{ℕ, _+_, _<_, _≤_};
 ghost use Rattle.lists.specs.Pick.{pick};
@@ -10,7 +9,7 @@ ghost use Rattle.numbers.specs.Layouts.{Valid};
 ghost use Rattle.homes.specs.Listed.{listed};
 ghost use Rattle.homes.specs.Homes.{free, move};
 ghost use Rattle.homes.specs.Records.{entryGood, recordRefusal};
-ghost use Rattle.homes.specs.Standing.{Units, HomesAre, MissingAre, TargetsAre, Standing, InTile};
+ghost use Rattle.homes.specs.Standing.{Units, HomesAre, MissingAre, Standing};
 
 // The targets that have failed, in order: the first k entries, of which the first q are repaired.
 // Entries from k on are never read. Any values may stand in it.
@@ -69,22 +68,6 @@ pub fn record_refusal(y: Layout, r: Record) -> u64
         return 3;
     }
     if entries_good(y, r) { 0 } else { 3 }
-}
-
-// The target of each unit of a group, by the permutation of the group's tile.
-pub fn targets_of(y: Layout, s: Shape, to: &[u8; 64], g: u64) -> [u8; 22]
-    requires { ⌜ InTile y s (now to) g ⌝ }
-    ensures { λ r. ⌜ TargetsAre y g r ⌝ }
-{
-    let w = s.w as usize;
-    let mut targets = [0u8; 22];
-    let mut u: usize = 0;
-    while u < w {
-        let a = place::place_in(y, s, to, g, u as u64);
-        targets[u] = a.target as u8;
-        u += 1;
-    }
-    targets
 }
 
 // Whether unit u is the home of one of m contents.

@@ -1,25 +1,22 @@
--- What is handed over to find where a group's homes begin, and what is handed back.
+-- Where a group's units begin, and its contents.
 use mathlib.Core.Path.{_≡_}
 use mathlib.Core.Bool.{false}
 use mathlib.Core.List.{List}
-use Prim.Native.Nat.{ℕ, _/_, _<_}
+use Prim.Native.Nat.{ℕ, _<_}
 use lib.ListN.{getD}
 use Rattle.numbers.specs.declared.Layout.{Layout}
-use Rattle.numbers.specs.declared.Shape.{Shape}
-use Rattle.numbers.specs.Layouts.{Valid, width, contents, allGroups}
-use Rattle.numbers.specs.Answers.{Shaped}
-use Rattle.tile.specs.Permutation.{permutationOf}
+use Rattle.numbers.specs.Layouts.{width, contents}
 use Rattle.place.specs.Bytes.{spot}
 use Rattle.homes.specs.declared.Record.{Record}
 use Rattle.homes.specs.Missing.{home, missing}
+use Rattle.homes.specs.Standing.{TargetsAre}
+use Rattle.survey.specs.declared.Sites.{Sites}
 use Rattle.survey.specs.declared.Stand.{Stand}
 
-pub record Housed (y : Layout) (s : Shape) (to : List ℕ) (g : ℕ) (homes : List ℕ) : Type 0 where
-  pub valid : Valid y
-  pub shape : Shaped y s
-  pub tile : to ≡ permutationOf (y .p) (y .cookie) (g / s .c)
-  pub group : g < allGroups y
-  pub units : (c : ℕ) → c < contents y → getD homes c 0 < width y
+-- the units of group g
+pub record Sited (y : Layout) (g : ℕ) (x : Sites) : Type 0 where
+  pub targets-are : TargetsAre y g (x .targets)
+  pub starts-are : (u : ℕ) → u < width y → getD (x .starts) u 0 ≡ spot y g u 0
 
 -- where each content's home under the first j entries begins
 abbrev pub StartsUnder : Layout → Record → ℕ → ℕ → List ℕ → Type 0

@@ -7,7 +7,6 @@ use native.Mathlib.Omega.{arith}
 use lib.ListN.{getD, replicate, getD-replicate}
 use Rattle.lists.specs.Count.{count-same, count-none}
 use Rattle.numbers.specs.declared.Layout.{Layout}
-use Rattle.numbers.specs.declared.Shape.{Shape}
 use Rattle.numbers.specs.Layouts.{Valid, width, contents}
 use Rattle.place.specs.Bytes.{spot}
 use Rattle.parity.specs.Group.{Solvable}
@@ -16,33 +15,30 @@ use Rattle.homes.specs.declared.Record.{Record}
 use Rattle.homes.specs.Records.{Good}
 use Rattle.homes.specs.Missing.{home, missing}
 use Rattle.homes.specs.MissingLaws.{home-lt}
-use Rattle.homes.specs.Standing.{InTile, TargetsAre, HomesAre}
+use Rattle.homes.specs.Standing.{HomesAre}
 use Rattle.homes.specs.StandingLaws.{homes-are}
 use Rattle.plan.specs.declared.Plan.{Plan}
 use Rattle.plan.specs.Plans.{Planned}
+use Rattle.survey.specs.declared.Sites.{Sites}
 use Rattle.survey.specs.declared.Stand.{Stand}
 use Rattle.survey.specs.declared.Survey.{Survey}
-use Rattle.survey.specs.Starts.{Housed, StartsUnder, Stands}
+use Rattle.survey.specs.Starts.{Sited, StartsUnder, Stands}
 use Rattle.survey.specs.Surveyed.{Surveyed, Surveying, solvable}
 
 -- homes that were worked out are units of the group, and where they begin is where the contents do
-module _ (y : Layout) (R : Record) (s : Shape) (to : List ℕ) (g j : ℕ) (t : InTile y s to g) (le : j ≤ y .k) (targets : List ℕ) (are : TargetsAre y g targets)
-    (r : List ℕ) (h : HomesAre targets (contents y) (y .k) (R .failed) j r) where
+module _ (y : Layout) (v : Valid y) (R : Record) (g j : ℕ) (le : j ≤ y .k) (x : Sites) (sited : Sited y g x)
+    (r : List ℕ) (h : HomesAre (x .targets) (contents y) (y .k) (R .failed) j r) where
   homes-here : (c : ℕ) → c < contents y → getD r c 0 ≡ home y R j g c
-  homes-here = homes-are y (t .valid) g targets are R j le r h
+  homes-here = homes-are y v g (x .targets) (sited .targets-are) R j le r h
 
-  pub housed-of : Housed y s to g r
-  housed-of =
-      record {
-        valid = t .valid;
-        shape = t .shape;
-        tile = t .tile;
-        group = t .group;
-        units = λ c b. subst⁻¹ (λ (u : ℕ). u < width y) (homes-here c b) (home-lt y (t .valid) R g j le c b);
-      }
+  home-in : (c : ℕ) → c < contents y → getD r c 0 < width y
+  home-in c b = subst⁻¹ (λ (u : ℕ). u < width y) (homes-here c b) (home-lt y v R g j le c b)
 
-  pub starts-of : (at : List ℕ) → ((c : ℕ) → c < contents y → getD at c 0 ≡ spot y g (getD r c 0) 0) → StartsUnder y R j g at
-  starts-of at e c b = e c b ∙ ap (λ (u : ℕ). spot y g u 0) (homes-here c b)
+  pub homes-fit : (contents y ≤ 19) × ((c : ℕ) → c < contents y → getD r c 0 < 22)
+  homes-fit = (omega (arith, v .few-data, v .few-parity), λ c b. omega (arith, home-in c b, v .few-data, v .few-parity))
+
+  pub starts-of : (at : List ℕ) → ((c : ℕ) → c < contents y → getD at c 0 ≡ getD (x .starts) (getD r c 0) 0) → StartsUnder y R j g at
+  starts-of at e c b = e c b ∙ sited .starts-are (getD r c 0) (home-in c b) ∙ ap (λ (u : ℕ). spot y g u 0) (homes-here c b)
 
 -- a group that misses nothing
 pub none-missing : (n k : ℕ) → n ≤ 16 → k ≤ 3 → Solvable n k (flag (replicate 19 false))

@@ -6,7 +6,7 @@ use numbers::Layout;
 use numbers::Shape;
 use plan::Plan;
 ghost use mathlib.Core.Path.{_≡_};
-ghost use Prim.Native.Nat.{ℕ, _<_};
+ghost use Prim.Native.Nat.{ℕ, _≤_, _<_};
 ghost use lib.ListN.{getD};
 ghost use Rattle.numbers.specs.Layouts.{Valid, contents, allGroups};
 ghost use Rattle.numbers.specs.Answers.{Shaped};
@@ -14,22 +14,44 @@ ghost use Rattle.tile.specs.Permutation.{permutationOf};
 ghost use Rattle.place.specs.Bytes.{spot};
 ghost use Rattle.homes.specs.Standing.{InTile};
 ghost use Rattle.homes.specs.Records.{Good};
-ghost use Rattle.survey.specs.Starts.{Housed, StartsUnder, Stands};
+ghost use Rattle.survey.specs.Starts.{Sited, StartsUnder, Stands};
 ghost use Rattle.survey.specs.Surveyed.{Surveyed, Surveying};
 
-// Where the units of a group that are its contents' homes begin in the image.
-fn home_starts(y: Layout, s: Shape, to: &[u8; 64], g: u64, homes: [usize; 19]) -> [usize; 19]
-    requires { ⌜ Housed y s (now to) g homes ⌝ }
-    ensures { λ r. ⌜ ((c : ℕ) → c < contents y → getD r c 0 ≡ spot y g (getD homes c 0) 0) ⌝ }
+// The target of each unit of a group, and where the unit begins in the image.
+pub struct Sites {
+    pub targets: [u8; 22],
+    pub starts: [usize; 22],
+}
+
+// Every place of the group is worked out once: it takes divisions.
+fn sites_of(y: Layout, s: Shape, to: &[u8; 64], g: u64) -> Sites
+    requires { ⌜ InTile y s (now to) g ⌝ }
+    ensures { λ r. ⌜ Sited y g r ⌝ }
 {
-    let m = (y.n + y.k) as usize;
+    let w = s.w as usize;
+    let mut targets = [0u8; 22];
+    let mut starts = [0usize; 22];
+    let mut u: usize = 0;
+    while u < w {
+        let a = place::place_in(y, s, to, g, u as u64);
+        let start = place::spot_of(y, s, a, 0);
+        targets[u] = a.target as u8;
+        starts[u] = start as usize;
+        u += 1;
+    }
+    Sites { targets, starts }
+}
+
+// Where the units that are the homes of m contents begin.
+fn home_starts(starts: [usize; 22], homes: [usize; 19], m: usize) -> [usize; 19]
+    requires { ⌜ (m ≤ 19) × ((c : ℕ) → c < m → getD homes c 0 < 22) ⌝ }
+    ensures { λ r. ⌜ ((c : ℕ) → c < m → getD r c 0 ≡ getD starts (getD homes c 0) 0) ⌝ }
+{
     let mut at = [0usize; 19];
     let mut c: usize = 0;
     while c < m {
-        let unit = homes[c] as u64;
-        let a = place::place_in(y, s, to, g, unit);
-        let start = place::spot_of(y, s, a, 0);
-        at[c] = start as usize;
+        let unit = homes[c];
+        at[c] = starts[unit];
         c += 1;
     }
     at
@@ -51,10 +73,12 @@ fn stand_of(y: Layout, s: Shape, r: Record, to: &[u8; 64], g: u64) -> Stand
     let failed = r.failed;
     let k = r.k as usize;
     let q = r.q as usize;
-    let targets = homes::targets_of(y, s, to, g);
+    let sites = sites_of(y, s, to, g);
+    let targets = sites.targets;
+    let starts = sites.starts;
     let homes = homes::homes_of(targets, m, spares, failed, q);
     let missing = homes::missing_of(targets, homes, m, spares, failed, k);
-    let at = home_starts(y, s, to, g, homes);
+    let at = home_starts(starts, homes, m);
     Stand { at, missing }
 }
 
@@ -68,9 +92,11 @@ pub fn new_starts(y: Layout, s: Shape, r: Record, to: &[u8; 64], g: u64) -> [usi
     let m = (n + y.k) as usize;
     let failed = r.failed;
     let k = r.k as usize;
-    let targets = homes::targets_of(y, s, to, g);
+    let sites = sites_of(y, s, to, g);
+    let targets = sites.targets;
+    let starts = sites.starts;
     let homes = homes::homes_of(targets, m, spares, failed, k);
-    home_starts(y, s, to, g, homes)
+    home_starts(starts, homes, m)
 }
 
 // The tile whose permutation is in hand, and the plan of the group last looked at.

@@ -2,7 +2,7 @@
 use Prim.Native.Nat.{_≤_}
 use native.Mathlib.Omega.{arith}
 use Rattle.homes.specs.StandingLaws.{standing-of, units-of, missing-are}
-use Rattle.survey.specs.Steps.{housed-of, starts-of}
+use Rattle.survey.specs.Steps.{homes-fit, starts-of}
 use borrow.Author.Needs.{needs}
 use Rattle.survey.proofs.stand_of.Statement.{statement}
 use Rattle.survey.proofs.stand_of.Tie as tie
@@ -13,27 +13,27 @@ few c = omega (arith, c .pre .0 .mended, c .pre .0 .few)
 add-m : tie.Need-add-m
 add-m c = search needs
 
-targets-of-requires : tie.Need-targets-of-requires
-targets-of-requires c κs = search needs
+sites-of-requires : tie.Need-sites-of-requires
+sites-of-requires c κs = search needs
 
 homes-of-requires : tie.Need-homes-of-requires
-homes-of-requires c κs = standing-of _ (c .before .before .before .pre .1 .valid) _ (c .targets-of .result) (c .targets-of .ensures) _ (few (c .before .before .before))
+homes-of-requires c κs = standing-of _ (c .before .before .before .before .before .pre .1 .valid) _ (c .before .before .sites-of .result .targets) (c .before .before .sites-of .ensures .targets-are) _ (few (c .before .before .before .before .before))
 
 missing-of-requires : tie.Need-missing-of-requires
-missing-of-requires c κs = (units-of _ (c .before .before .before .before .pre .1 .valid) _ (c .before .targets-of .result) (c .before .targets-of .ensures) (c .before .before .before .before .args .r) _ (few (c .before .before .before .before)) _ (c .homes-of .ensures), omega (arith, c .before .before .before .before .pre .0 .few, c .before .before .before .before .pre .1 .valid .few-parity))
+missing-of-requires c κs = (units-of _ (c .before .before .before .before .before .before .pre .1 .valid) _ (c .before .before .before .sites-of .result .targets) (c .before .before .before .sites-of .ensures .targets-are) (c .before .before .before .before .before .before .args .r) _ (few (c .before .before .before .before .before .before)) _ (c .homes-of .ensures), omega (arith, c .before .before .before .before .before .before .pre .0 .few, c .before .before .before .before .before .before .pre .1 .valid .few-parity))
 
 home-starts-requires : tie.Need-home-starts-requires
-home-starts-requires c κs = housed-of _ (c .before .before .before .before .before .args .r) _ _ _ _ (c .before .before .before .before .before .pre .1) (few (c .before .before .before .before .before)) (c .before .before .targets-of .result) (c .before .before .targets-of .ensures) _ (c .before .homes-of .ensures)
+home-starts-requires c κs = homes-fit _ (c .before .before .before .before .before .before .before .pre .1 .valid) (c .before .before .before .before .before .before .before .args .r) (c .before .before .before .before .before .before .before .args .g) _ (few (c .before .before .before .before .before .before .before)) (c .before .before .before .before .sites-of .result) (c .before .before .before .before .sites-of .ensures) (c .before .homes-of .result) (c .before .homes-of .ensures)
 
 returns : tie.Need-returns
 returns c =
-    let p = c .before .before .before .before .before .before .pre in
+    let p = c .before .before .before .before .before .before .before .before .pre in
     let homes = c .before .before .homes-of .ensures in
-    let targets = c .before .before .before .targets-of .ensures in
+    let sited = c .before .before .before .before .before .sites-of .ensures in
     record {
-      starts = starts-of _ (c .before .before .before .before .before .before .args .r) _ _ _ _ (p .1) (few (c .before .before .before .before .before .before)) (c .before .before .before .targets-of .result) targets (c .before .before .homes-of .result) homes (c .home-starts .result) (c .home-starts .ensures);
-      flags = missing-are _ (p .1 .valid) _ (c .before .before .before .targets-of .result) targets (c .before .before .before .before .before .before .args .r) (p .0) (c .before .before .homes-of .result) homes (c .before .missing-of .result) (c .before .missing-of .ensures);
+      starts = starts-of _ (p .1 .valid) (c .before .before .before .before .before .before .before .before .args .r) _ _ (few (c .before .before .before .before .before .before .before .before)) (c .before .before .before .before .before .sites-of .result) sited (c .before .before .homes-of .result) homes (c .home-starts .result) (c .home-starts .ensures);
+      flags = missing-are _ (p .1 .valid) _ (c .before .before .before .before .before .sites-of .result .targets) (sited .targets-are) (c .before .before .before .before .before .before .before .before .args .r) (p .0) (c .before .before .homes-of .result) homes (c .before .missing-of .result) (c .before .missing-of .ensures);
     }
 
 pub stand-of-spec : {M : Type 1} → statement M
-stand-of-spec = tie.close (tie.spec add-m targets-of-requires homes-of-requires missing-of-requires home-starts-requires returns)
+stand-of-spec = tie.close (tie.spec add-m sites-of-requires homes-of-requires missing-of-requires home-starts-requires returns)
