@@ -1,0 +1,108 @@
+//! Random runs of every public call of Splicebell beside the model in oracle/, which is written from
+//! document 01 alone. After every call the answer, every lent byte and the bytes beside every lent buffer
+//! are compared. docs/TESTING.md tells what it shows.
+
+mod bench;
+mod catalogues;
+mod draws;
+mod faults;
+mod groups;
+mod layouts;
+mod lent;
+mod places;
+mod pool_calls;
+mod pools;
+mod records;
+mod spoil;
+mod tally;
+
+use bench::{Bench, ROUND, SEED};
+use draws::Draws;
+use spoil::Spoil;
+use std::process::ExitCode;
+use std::sync::atomic::Ordering::Relaxed;
+use std::time::Instant;
+
+const USAGE: &str =
+    "usage: run [--runs CALLS] [--seed SEED] [--round ROUND] [--heap] [--spoil KIND]
+  --runs   how many calls at least
+  --round  this round alone, each call printed before it is made
+  --heap   every lent buffer is a heap block of its own: for memcheck
+  --spoil  makes a fault on purpose, which must be reported: answer, byte, before, after, look, store";
+
+/// Under two minutes, also where x86-64 is emulated.
+const USUAL_RUNS: u64 = 300_000;
+
+struct Options {
+    runs: u64,
+    seed: u64,
+    round: Option<u64>,
+    heap: bool,
+    spoil: Option<Spoil>,
+}
+
+fn options(mut words: impl Iterator<Item = String>) -> Option<Options> {
+    let mut options = Options { runs: USUAL_RUNS, seed: 1, round: None, heap: false, spoil: None };
+    while let Some(word) = words.next() {
+        match word.as_str() {
+            "--heap" => options.heap = true,
+            "--runs" => options.runs = words.next()?.parse().ok()?,
+            "--seed" => options.seed = words.next()?.parse().ok()?,
+            "--round" => options.round = Some(words.next()?.parse().ok()?),
+            "--spoil" => options.spoil = Some(Spoil::named(&words.next()?)?),
+            _ => return None,
+        }
+    }
+    Some(options)
+}
+
+/// One round: new draws, a new start, some calls.
+fn round(bench: &mut Bench, seed: u64, number: u64) {
+    ROUND.store(number, Relaxed);
+    bench.draws = Draws::new(seed, number);
+    match bench.draws.below(10) {
+        0 | 1 => places::round(bench),
+        2 | 3 => groups::round(bench),
+        4 | 5 => catalogues::round(bench),
+        _ => pools::round(bench),
+    }
+}
+
+fn main() -> ExitCode {
+    let Some(options) = options(std::env::args().skip(1)) else {
+        eprintln!("{USAGE}");
+        return ExitCode::from(2);
+    };
+    SEED.store(options.seed, Relaxed);
+    faults::watch();
+    let mut bench = Bench::new(options.heap, options.round.is_some(), options.spoil);
+    if let Some(number) = options.round {
+        round(&mut bench, options.seed, number);
+        println!("round {number} of seed {}: no difference", options.seed);
+        return ExitCode::SUCCESS;
+    }
+    let started = Instant::now();
+    let mut rounds = 0;
+    while bench.tally.calls() < options.runs {
+        round(&mut bench, options.seed, rounds);
+        rounds += 1;
+    }
+    finish(&bench, options.seed, rounds, started.elapsed().as_secs_f64())
+}
+
+/// Prints what was tried; whether it was everything.
+fn finish(bench: &Bench, seed: u64, rounds: u64, seconds: f64) -> ExitCode {
+    let calls = bench.tally.calls();
+    bench.tally.print();
+    println!(
+        "seed {seed}: {calls} calls in {rounds} rounds, {:.0} calls a second",
+        calls as f64 / seconds
+    );
+    let never = bench.tally.never_met();
+    if !never.is_empty() {
+        println!("never met: {}", never.join(", "));
+        return ExitCode::FAILURE;
+    }
+    println!("no difference");
+    ExitCode::SUCCESS
+}

@@ -1,0 +1,123 @@
+//! Runs of calls on one pool: the state that a call leaves is where the next one starts.
+
+use crate::bench::{hex, Bench};
+use crate::draws::Draws;
+use crate::layouts::is_light;
+use crate::pool_calls::{fail, hex_line, prepare, read, repair, show, write};
+use crate::{layouts, records};
+use oracle::layout::Layout;
+use oracle::place::place;
+use oracle::pool::{homes, unit_targets, Record};
+
+/// How long images may be: one in so many pools, up to so many bytes. Long ones are rare, since the model
+/// takes its time.
+const SIZES: [(u64, u64); 4] = [(2000, 32 << 20), (600, 4 << 20), (150, 1 << 19), (16, 1 << 14)];
+const USUAL_IMAGE: u64 = 640;
+
+/// What a call of the pool is given first: layout, record and image.
+#[derive(Clone)]
+pub struct Pool {
+    pub layout: Layout,
+    pub record: Record,
+    pub image: Vec<u8>,
+}
+
+impl Pool {
+    /// A pool of zeros with no failures, or an image that holds no file.
+    fn drawn(draws: &mut Draws) -> Pool {
+        let most =
+            SIZES.iter().find(|(rare, _)| draws.one_in(*rare)).map_or(USUAL_IMAGE, |size| size.1);
+        let layout = layouts::fitting(draws, most);
+        let length = layout.derived().image as usize;
+        if draws.one_in(3) {
+            let record = records::good(draws, &layout);
+            Pool { layout, record, image: draws.bytes(length) }
+        } else {
+            let record = records::empty(draws);
+            Pool { layout, record, image: vec![0; length] }
+        }
+    }
+
+    /// The pool with something else in the place of one thing or more: mostly what a call must refuse.
+    fn damaged(&self, draws: &mut Draws) -> Pool {
+        let mut pool = self.clone();
+        loop {
+            match draws.below(6) {
+                0 => pool.layout = layouts::damaged(draws, &pool.layout),
+                1 => pool.layout = layouts::any(draws),
+                2 => pool.layout.cookie = draws.word(),
+                3 => pool.image = resized(draws, &self.image),
+                4 => pool.record = records::bad(draws, &self.layout),
+                _ => pool.record = records::good(draws, &self.layout),
+            }
+            if draws.one_in(2) {
+                return pool;
+            }
+        }
+    }
+
+    /// Drawn bytes where no answer may depend on them: on failed targets and on spares that are no home.
+    fn scribble(&mut self, draws: &mut Draws) {
+        let (y, r) = (&self.layout, &self.record);
+        let frames_bytes = self.image.len() / y.p as usize;
+        for target in &r.failed[..r.k as usize] {
+            let begins = *target as usize * frames_bytes;
+            draws.fill(&mut self.image[begins..begins + frames_bytes]);
+        }
+        let group = draws.below(y.derived().groups);
+        let taken =
+            homes(y.contents() as usize, &unit_targets(y, group), &r.failed[..r.q as usize]);
+        for spare in y.contents()..y.derived().w {
+            if !taken.contains(&(spare as usize)) {
+                let begins = place(y, group, spare).1.begins as usize;
+                draws.fill(&mut self.image[begins..begins + y.u as usize]);
+            }
+        }
+    }
+
+    /// A pool in a report.
+    pub fn told(&self) -> String {
+        let Record { failed, k, q } = self.record;
+        let layout = layouts::told(&self.layout);
+        format!("{layout} failed {failed:?} k {k} q {q} image {}", hex(&self.image))
+    }
+}
+
+/// The image cut or made longer.
+fn resized(draws: &mut Draws, image: &[u8]) -> Vec<u8> {
+    let mut other = image.to_vec();
+    other.resize(draws.wrong_length(image.len()), draws.word() as u8);
+    other
+}
+
+/// Calls on one pool.
+pub fn round(bench: &mut Bench) {
+    let mut pool = Pool::drawn(&mut bench.draws);
+    bench.tally.add_pool(&pool.layout);
+    let most = if pool.image.len() > 1 << 16 { 12 } else { 60 };
+    for _ in 0..bench.draws.between(10, most) {
+        if bench.draws.one_in(8) {
+            pool.scribble(&mut bench.draws);
+        }
+        if bench.draws.one_in(5) {
+            let other = pool.damaged(&mut bench.draws);
+            call(bench, &other);
+        } else if let Some(after) = call(bench, &pool) {
+            pool = after;
+        }
+    }
+}
+
+/// Makes one call; what it leaves, for calls that change the record or the image.
+fn call(bench: &mut Bench, pool: &Pool) -> Option<Pool> {
+    match bench.draws.below(20) {
+        0..=3 => read(bench, pool),
+        4..=8 => return Some(write(bench, pool)),
+        9..=11 => return Some(fail(bench, pool)),
+        12..=13 if is_light(&pool.layout) => return Some(repair(bench, pool)),
+        12..=15 => prepare(bench, pool),
+        16..=17 => show(bench, pool),
+        _ => hex_line(bench, pool),
+    }
+    None
+}

@@ -1,0 +1,57 @@
+//! Faults made on purpose, one for each kind of comparison: the tester must report every one of them.
+
+use crate::lent::Lent;
+
+/// What a library with a fault would do.
+#[derive(Clone, Copy, Debug, PartialEq, Eq)]
+pub enum Spoil {
+    /// A number of the answer is wrong.
+    Answer,
+    /// A byte of a lent buffer is not what the model says.
+    Byte,
+    /// The byte before a buffer is changed.
+    Before,
+    /// The byte past the end of a buffer is changed.
+    After,
+    /// The byte past the end of a buffer is read.
+    Look,
+    /// A byte of a buffer that is lent to be read is stored, the same as was there.
+    Store,
+}
+
+const KINDS: [(&str, Spoil); 6] = [
+    ("answer", Spoil::Answer),
+    ("byte", Spoil::Byte),
+    ("before", Spoil::Before),
+    ("after", Spoil::After),
+    ("look", Spoil::Look),
+    ("store", Spoil::Store),
+];
+
+impl Spoil {
+    pub fn named(name: &str) -> Option<Spoil> {
+        let (_, kind) = KINDS.iter().find(|(known, _)| *known == name)?;
+        Some(*kind)
+    }
+
+    /// Spoils a buffer where this kind can; whether it did.
+    pub fn buffer<T: Copy>(self, lent: &Lent<T>) -> bool {
+        let first = lent.pointer().cast::<u8>();
+        let bytes = std::mem::size_of_val(lent.contents());
+        let is_open = !lent.is_sealed();
+        // SAFETY: none; that is what it is for. Nothing but the arena's bytes and guards is changed.
+        unsafe {
+            match self {
+                Spoil::Byte if is_open && bytes > 0 => *first.add(bytes / 2) ^= 1,
+                Spoil::Before if is_open && lent.is_guarded_before() => *first.sub(1) ^= 1,
+                Spoil::After if is_open && lent.is_guarded_after() => *first.add(bytes) ^= 1,
+                Spoil::Look if !lent.is_guarded_after() => {
+                    first.add(bytes).read_volatile();
+                }
+                Spoil::Store if !is_open => first.write_volatile(first.read()),
+                _ => return false,
+            }
+        }
+        true
+    }
+}
