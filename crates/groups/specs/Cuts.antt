@@ -8,12 +8,11 @@ use native.Mathlib.Nat.{mul-le-mul-left, mul-comm, le-refl, mod-lt, div-add-mod}
 use borrow.Author.Tests.{ltb-true, ltb-false}
 use lib.Dec.{ltb}
 use Rattle.lists.specs.Pick.{pick, pick-true, pick-false, either-way, below-or-not}
-use Rattle.lists.specs.Part.{within-in, within-before, within-after}
+use Rattle.lists.specs.Part.{within-in, within-before, within-after, within-true}
 use Rattle.lists.specs.Digits.{div-below}
 use Rattle.plan.specs.declared.Plan.{Plan}
-use Rattle.runs.specs.Run.{within-true}
 use Rattle.updates.specs.Writing.{RunFits}
-use Rattle.groups.specs.Between.{between, between-in, between-before, between-after, between-true, next}
+use Rattle.lists.specs.Between.{between, between-in, between-before, between-after, between-true, next}
 use Rattle.groups.specs.Write.{nameAt, Named, Cut, Uncut}
 
 -- the first unit of which the byte at unit offset lo is at or after byte o of unit v

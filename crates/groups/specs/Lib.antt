@@ -1,9 +1,6 @@
-pub mod Between
-pub mod Lays
 pub mod Write
 pub mod Cuts
 pub mod Parts
 pub mod Mend
 pub mod Read
-pub mod Sweep
 pub mod Local

@@ -6,12 +6,13 @@ use Prim.Native.Nat.{ℕ, _+_, _-_, _<_, _≤_}
 use native.Mathlib.Nat.{le-refl}
 use native.Mathlib.Omega.{arith}
 use lib.ListN.{length, getD}
+use Rattle.lists.specs.Part.{within-cases}
 use Rattle.plan.specs.declared.Plan.{Plan}
 use Rattle.plan.specs.Plans.{missOf, Fits, held}
-use Rattle.runs.specs.Run.{within-cases, paint, paint-length, paint-hit, paint-miss, paint-ext-on}
+use Rattle.runs.specs.Run.{paint, paint-length, paint-hit, paint-miss, paint-ext-on}
 use Rattle.runs.specs.Held.{runOf, heldRun, rankPlace}
 use Rattle.runs.specs.Steps.{kept-at}
-use Rattle.groups.specs.Lays.{Lays}
+use Rattle.lists.specs.Lays.{Lays}
 
 -- "stores every missing content at its home under the whole list"
 unfoldable pub groupMended : Plan → List ℕ → List ℕ → List ℕ

@@ -9,16 +9,17 @@ use native.Mathlib.Nat.{le-refl}
 use borrow.Author.Tests.{ltb-true}
 use lib.Dec.{ltb}
 use lib.ListN.{length, getD}
+use Rattle.lists.specs.Part.{within-cases}
 use Rattle.lists.specs.Pick.{pick, both, pick-true, pick-false, either-way, both-true, both-hold, clash, below-or-not}
 use Rattle.lists.specs.Search.{any, any-true, any-false}
 use Rattle.parity.specs.Content.{content-cong}
 use Rattle.parity.specs.Local.{rebuilt-cong}
 use Rattle.plan.specs.declared.Plan.{Plan}
 use Rattle.plan.specs.Plans.{atOf, missOf, Fits, Apart, Right, column, held}
-use Rattle.runs.specs.Run.{within-cases, paint, paint-length, paint-hit, paint-miss}
+use Rattle.runs.specs.Run.{paint, paint-length, paint-hit, paint-miss}
 use Rattle.updates.specs.Writing.{laid, newContent, storesIn, newRun, runWritten}
-use Rattle.groups.specs.Between.{between, between-in, between-before, between-after, between-true, between-cases}
-use Rattle.groups.specs.Lays.{Lays, lays-none, lays-ext, lays-home}
+use Rattle.lists.specs.Between.{between, between-in, between-before, between-after, between-true, between-cases}
+use Rattle.lists.specs.Lays.{Lays, lays-none, lays-ext, lays-home}
 use Rattle.groups.specs.Write.{nameAt, onAt, valAt, onIn, Cut, Uncut}
 use Rattle.groups.specs.Cuts.{unitFrom, unit-le, names}
 

@@ -9,12 +9,12 @@ use borrow.Author.Tests.{lt-ltb, le-ltb}
 use lib.Dec.{ltb}
 use lib.ListN.{length, getD}
 use Rattle.lists.specs.Pick.{pick, pick-true, pick-false, clash, below-or-not}
-use Rattle.lists.specs.Part.{within, within-in, within-before, within-after}
+use Rattle.lists.specs.Part.{within, within-in, within-before, within-after, within-cases}
 use Rattle.lists.specs.Digits.{div-of, mod-of}
 use Rattle.lists.specs.Tabulate.{tabulate, tabulated, getD-tabulate}
 use Rattle.plan.specs.declared.Plan.{Plan}
 use Rattle.plan.specs.Plans.{held}
-use Rattle.runs.specs.Run.{within-cases, runSet, length-runSet, runSet-in, runSet-out}
+use Rattle.runs.specs.Run.{runSet, length-runSet, runSet-in, runSet-out}
 use Rattle.runs.specs.Held.{heldRun}
 
 -- byte y of the group's data

@@ -13,7 +13,7 @@ use Rattle.lists.specs.Search.{any}
 use Rattle.plan.specs.declared.Plan.{Plan}
 use Rattle.plan.specs.Plans.{missOf}
 use Rattle.updates.specs.Writing.{newContent}
-use Rattle.groups.specs.Between.{between}
+use Rattle.lists.specs.Between.{between}
 
 -- data unit j is named at unit offset o
 unfoldable pub nameAt : Plan → ℕ → ℕ → ℕ → ℕ → ℕ → Bool

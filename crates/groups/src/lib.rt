@@ -6,7 +6,7 @@ ghost use Rattle.lists.specs.Pick.{pick};
 ghost use Rattle.plan.specs.Plans.{atOf, missOf, Fits, Apart};
 ghost use Rattle.runs.specs.Run.{runSet, paint};
 ghost use Rattle.runs.specs.Held.{runOf, rankPlace};
-ghost use Rattle.groups.specs.Lays.{Lays};
+ghost use Rattle.lists.specs.Lays.{Lays};
 ghost use Rattle.groups.specs.Write.{onAt, onIn, valAt, Named, Cut, Uncut};
 ghost use Rattle.groups.specs.Cuts.{unitFrom};
 ghost use Rattle.groups.specs.Read.{unitRead, groupRead};

@@ -9,3 +9,6 @@ pub mod Refusal
 pub mod Span
 pub mod Part
 pub mod Bijection
+pub mod Lays
+pub mod Between
+pub mod Sweep

@@ -1,12 +1,12 @@
 -- A choice by a test, and tests joined.
-use Prim.Native.Nat.{ℕ, suc, _<_, _≤_}
-use native.Mathlib.Nat.{suc-ne-zero, eq-or-lt-of-le}
+use Prim.Native.Nat.{ℕ, _<_, _≤_}
+use native.Mathlib.Nat.{suc-ne-zero}
 use native.Mathlib.Omega.{arith}
 use mathlib.Core.Path.{_≡_, refl, ap, sym, _∙_}
 use mathlib.Core.Logic.{_⊎_, inl, inr, ⊎-elim}
 use mathlib.Core.Bool.{Bool, true, false}
 use lib.Dec.{eqb, ltb}
-use borrow.Author.Tests.{eqb-true, eqb-false, eq-eqb, ne-eqb, ltb-true, ltb-false, lt-ltb, le-ltb}
+use borrow.Author.Tests.{eqb-true, eqb-false, eq-eqb, ne-eqb, ltb-true, ltb-false}
 
 -- a where the test holds, else b
 abbrev pub pick : {A : Type 0} → Bool → A → A → A
@@ -66,21 +66,6 @@ eqb-iff a b c d f g =
 pub both-off : (t : Bool) → both t false ≡ false
 both-off true = refl
 both-off false = refl
-
--- below b + 1: below b, or b
-pub ltb-suc : (a b : ℕ) → ltb a (suc b) ≡ pick (eqb a b) true (ltb a b)
-ltb-suc a b =
-    ⊎-elim
-    (λ (t : eqb a b ≡ true). let e : a ≡ b = eqb-true a b t in lt-ltb a (suc b) (omega arith) ∙ sym (pick-true (eqb a b) true (ltb a b) t))
-    (λ (t : eqb a b ≡ false).
-    let ne = eqb-false a b t in
-    ⊎-elim
-    (λ (l : ltb a b ≡ true). let h : a < b = ltb-true a b l in lt-ltb a (suc b) (omega arith) ∙ sym (pick-false (eqb a b) true (ltb a b) t ∙ l))
-    (λ (l : ltb a b ≡ false).
-    let h : b ≤ a = ltb-false a b l in
-    le-ltb a (suc b) (⊎-elim (λ (q : b ≡ a). absurd (ne (sym q))) (λ (q : b < a). q) (eq-or-lt-of-le h)) ∙ sym (pick-false (eqb a b) true (ltb a b) t ∙ l))
-    (either-way (ltb a b)))
-    (either-way (eqb a b))
 
 -- ---- a bit
 

@@ -22,6 +22,3 @@ pub mod Blind
 pub mod Elsewhere
 pub mod ElsewhereKept
 pub mod Cuts
-pub mod Sweep
-pub mod Turn
-pub mod Groups

@@ -2,35 +2,36 @@
 use mathlib.Core.Path.{_≡_, refl, sym, ap, _∙_}
 use mathlib.Core.List.{List}
 use Prim.Native.Nat.{ℕ, _+_, _≤_, _<_}
-use native.Mathlib.Numerals.{add-one}
 use native.Mathlib.Omega.{arith}
 use lib.ListN.{length, getD}
-use Rattle.lists.specs.Pick.{pick, pick-false}
-use Rattle.lists.specs.Tabulate.{at}
+use Rattle.lists.specs.Pick.{clash}
 use Rattle.lists.specs.Count.{count, sum, count-same, count-zero, sum-next}
 use Rattle.lists.specs.Refusal.{grant-yes, grant-no}
+use Rattle.lists.specs.Between.{between-in}
+use Rattle.lists.specs.Lays.{lays-none}
+use Rattle.lists.specs.Sweep.{byteAfter, upto-none, upto-done, sweep-step}
 use Rattle.numbers.specs.declared.Layout.{Layout}
 use Rattle.numbers.specs.Layouts.{Valid, contents, allGroups, imageLength}
-use Rattle.place.specs.Bytes.{spot}
+use Rattle.place.specs.Bytes.{spot, offsetHere}
 use Rattle.homes.specs.declared.Record.{Record}
 use Rattle.homes.specs.Records.{Good}
 use Rattle.homes.specs.Missing.{home, missing}
-use Rattle.homes.specs.MissingLaws.{few-missing}
+use Rattle.homes.specs.MissingLaws.{few-missing, home-stays}
 use Rattle.plan.specs.declared.Plan.{Plan}
-use Rattle.plan.specs.Plans.{missOf, Fits, held}
+use Rattle.plan.specs.Plans.{missOf, Fits}
 use Rattle.runs.specs.Steps.{fits-at}
-use Rattle.groups.specs.Lays.{lays-home}
 use Rattle.groups.specs.Mend.{groupMended, MendFits, mend-at, mend-lays}
 use Rattle.survey.specs.Starts.{StartsUnder}
 use Rattle.survey.specs.Surveyed.{Surveyed, spot-plus, fits, apart, held-is}
+use Rattle.survey.specs.Placing.{startOf, groupHere, contentHere, placed}
 use Rattle.pool.specs.Asked.{Sound, repair-asked}
+use Rattle.pool.specs.Blind.{content-local}
 use Rattle.pool.specs.Calls.{Repairs}
-use Rattle.pool.specs.Contents.{contentByte}
+use Rattle.pool.specs.Contents.{stored}
 use Rattle.pool.specs.Refusals.{repairRefusal}
-use Rattle.pool.specs.Repairing.{mends, mended, mendedImage, repairImage, repairRecord, repairCount}
-use Rattle.pool.specs.StoringLaws.{storing-length}
-use Rattle.pool.specs.Groups.{Group, group-begin, group-turn, group-end, content-yet-mended}
-use Rattle.pool_repair.specs.Mending.{Mended, mendedTo, missingPairs, MendedBelow}
+use Rattle.pool.specs.Repairing.{mended, mendedImage, repairImage, repairRecord, repairCount}
+use Rattle.pool.specs.Storing.{storing, cellAfter}
+use Rattle.pool_repair.specs.Mending.{Mended, mendsAt, mendedAt, missingPairs, MendedBelow}
 
 -- ---- one group
 
@@ -85,23 +86,20 @@ module _ (y : Layout) (v : Valid y) (R : Record) (good : Good y R) (g : ℕ) (hg
   new-apart : (c d x z : ℕ) → c < P .n + P .k → d < P .n + P .k → x < P .u → z < P .u → getD starts c 0 + x ≡ getD starts d 0 + z → c ≡ d
   new-apart = apart y v R good (R .k) (good .few) g hg moved moved-surveyed .apart
 
-  new-byte : (c o : ℕ) → c < contents y → getD starts c 0 + o ≡ spot y g (home y R (R .k) g c) o
-  new-byte c o h = ap (λ (a : ℕ). a + o) (new c h) ∙ spot-plus y g (home y R (R .k) g c) o
-
   pub mended-group : (img img′ : List ℕ) → length img ≡ imageLength y → img′ ≡ groupMended P starts img → Mended y R g img img′
   mended-group img img′ len e =
       let l = mend-lays P starts img img′ (mend-at new-fits len) new-apart e in
       record {
-        same-length = l .same;
-        homes = λ o c ho hc.
-            ap (at img′) (sym (new-byte c o hc))
-            ∙ lays-home (P .n + P .k) (P .u) (λ d. getD starts d 0) new-apart (λ d x. missOf P d) (λ d x. held P img x d) img img′
-            (λ d h. omega (arith, new-inside d h, len)) l c o (omega (arith, s .n-is, s .k-is)) (omega (arith, s .u-is))
-            ∙ (λ i. pick (s .flags-are c hc i) (held-is y v R good g P s img o c hc i) (at img (new-byte c o hc i)));
-        others = λ x h w.
-            l .miss x h (λ c o hc ho t q.
+        same = l .same;
+        hit = λ c o hc ho t.
+            ap (λ (a : ℕ). getD img′ (a + o) 0) (sym (new c hc))
+            ∙ l .hit c o (omega (arith, s .n-is, s .k-is)) (omega (arith, s .u-is)) (s .flags-are c hc ∙ t)
+            ∙ held-is y v R good g P s img o c hc;
+        miss = λ x h w.
+            l .miss x h
+            (λ c o hc ho t q.
             let b : c < contents y = omega (arith, s .n-is, s .k-is) in
-            w o c (omega (arith, s .u-is)) b (q ∙ new-byte c o b));
+            w c o b (omega (arith, s .u-is)) (sym (s .flags-are c b) ∙ t) (q ∙ ap (λ (a : ℕ). a + o) (new c b)));
       }
 
 module _ (y : Layout) (v : Valid y) (R : Record) (good : Good y R) (g : ℕ) (P : Plan) (s : Surveyed y R (R .q) g P) where
@@ -112,66 +110,67 @@ module _ (y : Layout) (v : Valid y) (R : Record) (good : Good y R) (g : ℕ) (P 
   -- where none is, the group is as it should be
   pub nothing-to-mend : P .gone ≡ 0 → (img : List ℕ) → Mended y R g img img
   nothing-to-mend e img =
-      record {
-        same-length = refl;
-        homes = λ o c ho hc. sym (pick-false (missing y R g c) _ _ (count-zero (missing y R g) (contents y) (sym gone-here ∙ e) c hc));
-        others = λ x h w. refl;
-      }
+      lays-none (contents y) (y .u) (startOf y R (R .k) g) (mendsAt y R g) (mendedAt y R img g) img
+      (λ c o hc ho t. clash (missing y R g c) t (count-zero (missing y R g) (contents y) (sym gone-here ∙ e) c hc))
 
   pub few-gone : P .gone ≤ 3
   few-gone = omega (arith, gone-here, few-missing y v R g good, v .few-parity)
 
 -- ---- group after group
 
-module _ (y : Layout) (R : Record) (img₀ : List ℕ) (sound : Sound y R (length img₀)) where
-  pub mend-begin : MendedBelow y R img₀ 0 0 img₀
-  unfolding mendedTo sum
-  mend-begin =
-      record {
-        image = group-begin y (sound .valid) R (R .k) (sound .good .few) (mends y R) (contentByte y R img₀) img₀ (sound .len-is) 0 (λ g o c hg ho hc t. omega arith);
-        pairs = refl;
-        few = omega arith;
-      }
+-- what is rebuilt hangs on the column alone: present contents stand where they stood
+mended-local : (y : Layout) (v : Valid y) (R : Record) (good : Good y R) (g : ℕ) (img other : List ℕ) (c o : ℕ) → c < contents y
+    → ((d : ℕ) → d < contents y → getD img (startOf y R (R .k) g d + o) 0 ≡ getD other (startOf y R (R .k) g d + o) 0)
+    → mendedAt y R img g c o ≡ mendedAt y R other g c o
+unfolding stored
+mended-local y v R good g img other c o hc same =
+    content-local y R img other v good g o
+    (λ d b m.
+    let here : spot y g (home y R (R .q) g d) o ≡ startOf y R (R .k) g d + o =
+    ap (λ (u : ℕ). spot y g u o) (sym (home-stays y v R g (good .mended) d m)) ∙ sym (spot-plus y g (home y R (R .k) g d) o) in
+    ap (λ (x : ℕ). getD img x 0) here ∙ same d b ∙ sym (ap (λ (x : ℕ). getD other x 0) here)) c hc
 
-  pub mend-turn : (g n gone : ℕ) (img img′ : List ℕ) → g < allGroups y → gone ≡ count (missing y R g) (contents y) → MendedBelow y R img₀ g n img → Mended y R g img img′
+pub mend-begin : (y : Layout) (R : Record) (img : List ℕ) → Sound y R (length img) → MendedBelow y R img 0 0 img
+unfolding sum
+mend-begin y R img sound =
+    record {
+      sound = sound;
+      same = refl;
+      done = λ x h.
+          upto-none (allGroups y) (contents y) (y .u) (imageLength y) (startOf y R (R .k)) (groupHere y) (contentHere y R (R .k)) (offsetHere y)
+          (placed y (sound .valid) R (R .k) (sound .good .few)) (mendsAt y R) (mendedAt y R) 0 img x;
+      pairs = refl;
+      few = omega arith;
+    }
+
+module _ (y : Layout) (R : Record) (img₀ : List ℕ) (g n : ℕ) (img : List ℕ) (b : MendedBelow y R img₀ g n img) where
+  abbrev v : Valid y
+  v = b .sound .valid
+
+  abbrev good : Good y R
+  good = b .sound .good
+
+  pub mend-turn : (gone : ℕ) (img′ : List ℕ) → g < allGroups y → gone ≡ count (missing y R g) (contents y) → Mended y R g img img′
       → MendedBelow y R img₀ (g + 1) (n + gone) img′
-  unfolding mendedTo
-  mend-turn g n gone img img′ hg e b m =
+  mend-turn gone img′ hg e m =
       record {
-        image = group-turn y v R (R .k) (good .few) (mends y R) (contentByte y R img₀) img₀ (sound .len-is) g img img′ hg (b .image) stores ∙ ap (mendedTo y R img₀) (sym (add-one g));
+        sound = b .sound;
+        same = m .same ∙ b .same;
+        done =
+            sweep-step (allGroups y) (contents y) (y .u) (imageLength y) (startOf y R (R .k)) (groupHere y) (contentHere y R (R .k)) (offsetHere y)
+            (placed y v R (R .k) (good .few)) (mendsAt y R) (mendedAt y R) 0 g (omega arith) hg img₀ img img′
+            (λ c o hc ho. mended-local y v R good g img img₀ c o hc) (b .sound .len-is) (b .same) (b .done) m;
         pairs = (λ i. b .pairs i + e i) ∙ sym (sum-next (λ h. count (missing y R h) (contents y)) g);
         few = omega (arith, b .few, e, few-missing y v R g good, v .few-parity);
       }
-    where
-      v : Valid y
-      v = sound .valid
 
-      good : Good y R
-      good = sound .good
-
-      -- what is rebuilt here is what was held before the first group
-      stores : Group y R (R .k) (mends y R g) (contentByte y R img₀ g) g img img′
-      stores =
-          record {
-            same-length = m .same-length;
-            homes = λ o c ho hc.
-                m .homes o c ho hc
-                ∙ ap (λ (x : ℕ). pick (missing y R g c) x (at img (spot y g (home y R (R .k) g c) o)))
-                (ap (λ (l : List ℕ). contentByte y R l g o c) (b .image)
-                ∙ content-yet-mended y v R good (mends y R) (contentByte y R img₀) img₀ (sound .len-is) (good .few) g o c hg ho hc);
-            others = m .others;
-          }
-
-  pub mended-length : (g n : ℕ) (img : List ℕ) → MendedBelow y R img₀ g n img → length img ≡ length img₀
-  unfolding mendedTo
-  mended-length g n img b = ap length (b .image) ∙ storing-length y R (R .k) _ (contentByte y R img₀) img₀
-
-  pub mend-end : (g n : ℕ) (img : List ℕ) → g ≡ allGroups y → MendedBelow y R img₀ g n img → (n ≡ missingPairs y R (allGroups y)) × (img ≡ mendedImage y R img₀)
-  unfolding mendedTo
-  mend-end g n img e b = (
+  pub mend-end : g ≡ allGroups y → (n ≡ missingPairs y R (allGroups y)) × (img ≡ mendedImage y R img₀)
+  unfolding storing cellAfter byteAfter
+  mend-end e = (
     b .pairs ∙ ap (missingPairs y R) e,
-    b .image ∙ ap (mendedTo y R img₀) e
-        ∙ group-end y (sound .valid) R (R .k) (sound .good .few) (mends y R) (contentByte y R img₀) img₀ (sound .len-is) (allGroups y) (λ h o c hh ho hc t. hh),
+    upto-done (allGroups y) (contents y) (y .u) (imageLength y) (startOf y R (R .k)) (groupHere y) (contentHere y R (R .k)) (offsetHere y)
+        (placed y v R (R .k) (good .few)) (mendsAt y R) (mendedAt y R) 0 g img₀ img (b .sound .len-is) (b .same)
+        (λ h c o hh hc ho t. between-in 0 g h (omega arith) (omega (arith, hh, e))) (b .done),
   )
 
 -- ---- the call

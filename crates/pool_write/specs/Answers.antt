@@ -45,7 +45,3 @@ module _ (y : Layout) (R : Record) (img : List ℕ) (offset : ℕ) (bytes : List
       sym
       (storing-none y R (R .q) _ _ img
       (λ g o c. not-both-ways _ (λ t. clash _ (both-true (not (missing y R g c)) _ t .1) (unwritten e g o c))))
-
-  -- any two outcomes that the promise allows are the same
-  pub writes-tight : (n n′ : ℕ) (img′ img″ : List ℕ) → Writes y R img offset bytes n img′ → Writes y R img offset bytes n′ img″ → (n ≡ n′) × (img′ ≡ img″)
-  writes-tight n n′ img′ img″ a b = (a .answer ∙ sym (b .answer), a .image ∙ sym (b .image))

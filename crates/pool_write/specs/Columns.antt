@@ -20,7 +20,7 @@ use Rattle.pool.specs.Writing.{named, touched, writes, laid, writesPresent}
 use Rattle.plan.specs.declared.Plan.{Plan}
 use Rattle.plan.specs.Plans.{atOf}
 use Rattle.updates.specs.Writing.{newContent, laid as laidBy}
-use Rattle.groups.specs.Lays.{Lays}
+use Rattle.lists.specs.Lays.{Lays}
 use Rattle.groups.specs.Write.{nameAt, onAt, valAt}
 use Rattle.groups.specs.Local.{write-local}
 use Rattle.survey.specs.Surveyed.{Surveyed, held-is}

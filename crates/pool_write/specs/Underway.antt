@@ -12,7 +12,7 @@ use Rattle.numbers.specs.declared.Layout.{Layout}
 use Rattle.numbers.specs.Layouts.{Valid, contents, allGroups, capacity, imageLength}
 use Rattle.numbers.specs.Shapes.{layout-products}
 use Rattle.place.specs.Bytes.{offsetHere}
-use Rattle.place.specs.ByteLaws.{data-bytes, group-here-lt, offset-here-lt}
+use Rattle.place.specs.ByteLaws.{data-bytes}
 use Rattle.homes.specs.declared.Record.{Record}
 use Rattle.homes.specs.Missing.{missing}
 use Rattle.pool.specs.Asked.{Sound}
@@ -21,12 +21,12 @@ use Rattle.pool.specs.Writing.{writtenImage}
 use Rattle.pool.specs.Cuts.{writes-span}
 use Rattle.plan.specs.declared.Plan.{Plan}
 use Rattle.plan.specs.Plans.{atOf, Fits, Apart}
-use Rattle.groups.specs.Lays.{Lays}
+use Rattle.lists.specs.Lays.{Lays}
 use Rattle.groups.specs.Write.{onAt, valAt, Named}
-use Rattle.groups.specs.Between.{between, between-in}
-use Rattle.groups.specs.Sweep.{Placed, byteAfter, upto, upto-none, sweep-step, upto-done}
+use Rattle.lists.specs.Between.{between, between-in}
+use Rattle.lists.specs.Sweep.{byteAfter, upto, upto-none, sweep-step, upto-done}
 use Rattle.survey.specs.Surveyed.{Surveyed, fits, apart}
-use Rattle.survey.specs.Placing.{startOf, groupHere, contentHere, start-inside, content-there, group-found, content-found, offset-found}
+use Rattle.survey.specs.Placing.{startOf, groupHere, contentHere, placed}
 use Rattle.pool_write.specs.Columns.{storesAt, storedAt, lays-here, stored-local}
 
 -- the data bytes of a group
@@ -37,22 +37,10 @@ module _ (y : Layout) (R : Record) (len : ℕ) (s : Sound y R len) where
   pub repaired-few : R .q ≤ y .k
   repaired-few = omega (arith, s .good .mended, s .good .few)
 
-  pub placed : Placed (allGroups y) (contents y) (y .u) (imageLength y) (startOf y R (R .q)) (groupHere y) (contentHere y R (R .q)) (offsetHere y)
-  placed =
-      record {
-        inside = start-inside y (s .valid) R (R .q) repaired-few;
-        group-lt = group-here-lt y (s .valid);
-        off-lt = λ x h. offset-here-lt y (s .valid) x;
-        there = content-there y (s .valid) R (R .q) repaired-few;
-        group-at = group-found y (s .valid) R (R .q) repaired-few;
-        own-at = content-found y (s .valid) R (R .q) repaired-few;
-        off-at = offset-found y (s .valid) R (R .q) repaired-few;
-      }
-
   -- byte x once the groups from the first that is named on and below g are written
   abbrev pub partWritten : ℕ → List ℕ → List ℕ → ℕ → ℕ → ℕ
   partWritten offset bytes img g x =
-      upto (allGroups y) (contents y) (y .u) (imageLength y) (startOf y R (R .q)) (groupHere y) (contentHere y R (R .q)) (offsetHere y) placed
+      upto (allGroups y) (contents y) (y .u) (imageLength y) (startOf y R (R .q)) (groupHere y) (contentHere y R (R .q)) (offsetHere y) (placed y (s .valid) R (R .q) repaired-few)
       (storesAt y R offset (length bytes)) (storedAt y R offset bytes) (offset / dataSpan y) img g x
 
 pub record Underway (y : Layout) (R : Record) (img₀ : List ℕ) (offset : ℕ) (bytes : List ℕ) (g from : ℕ) (img : List ℕ) : Type 0 where
@@ -93,7 +81,7 @@ underway-start y R img offset bytes s range =
       from-is = refl;
       same = refl;
       done = λ x h.
-          upto-none (allGroups y) (contents y) (y .u) (imageLength y) (startOf y R (R .q)) (groupHere y) (contentHere y R (R .q)) (offsetHere y) (placed y R (length img) s)
+          upto-none (allGroups y) (contents y) (y .u) (imageLength y) (startOf y R (R .q)) (groupHere y) (contentHere y R (R .q)) (offsetHere y) (placed y (s .valid) R (R .q) (repaired-few y R (length img) s))
           (storesAt y R offset (length bytes)) (storedAt y R offset bytes) (offset / dataSpan y) img x;
     }
 
@@ -139,7 +127,7 @@ module _ (y : Layout) (R : Record) (img₀ : List ℕ) (offset : ℕ) (bytes : L
             same = l .same ∙ w .same;
             done =
                 sweep-step (allGroups y) (contents y) (y .u) (imageLength y) (startOf y R (R .q)) (groupHere y) (contentHere y R (R .q)) (offsetHere y)
-                (placed y R (length img₀) (w .sound)) (storesAt y R offset (length bytes)) (storedAt y R offset bytes) (offset / dataSpan y) g (w .first) group-inside
+                (placed y (w .sound .valid) R (R .q) (repaired-few y R (length img₀) (w .sound))) (storesAt y R offset (length bytes)) (storedAt y R offset bytes) (offset / dataSpan y) g (w .first) group-inside
                 img₀ img img′
                 (λ c o hc ho. stored-local y v R (w .sound .good) g P s from (w .from-is) offset bytes img img₀ c o)
                 (w .sound .len-is) (w .same) (w .done)
@@ -162,5 +150,5 @@ module _ (y : Layout) (R : Record) (img₀ : List ℕ) (offset : ℕ) (bytes : L
     unfolding storing cellAfter byteAfter
     underway-done =
         upto-done (allGroups y) (contents y) (y .u) (imageLength y) (startOf y R (R .q)) (groupHere y) (contentHere y R (R .q)) (offsetHere y)
-        (placed y R (length img₀) (w .sound)) (storesAt y R offset (length bytes)) (storedAt y R offset bytes) (offset / dataSpan y) g img₀ img
+        (placed y (w .sound .valid) R (R .q) (repaired-few y R (length img₀) (w .sound))) (storesAt y R offset (length bytes)) (storedAt y R offset bytes) (offset / dataSpan y) g img₀ img
         (w .sound .len-is) (w .same) stores-between (w .done)

@@ -7,27 +7,12 @@ use Prim.Native.Nat.{ℕ, zero, suc, _+_, _-_, _<_, _≤_}
 use native.Mathlib.Nat.{not-suc-le-zero, le-of-suc-le-suc, eq-or-lt-of-le, lt-irrefl, le-refl}
 use native.Mathlib.Numerals.{add-one}
 use native.Mathlib.Omega.{arith}
-use borrow.Author.Tests.{leb-true, ltb-true}
-use lib.Dec.{leb, ltb}
 use lib.ListN.{length, getD, set, length-set}
 use lib.Seq.{getD-set-same, getD-set-other}
-use Rattle.lists.specs.Pick.{pick, pick-true, pick-false, either-way, both-true, clash, below-or-not}
-use Rattle.lists.specs.Part.{within, within-in}
+use Rattle.lists.specs.Pick.{pick, pick-true, pick-false, clash, below-or-not}
+use Rattle.lists.specs.Part.{within, within-in, within-cases}
 use Rattle.lists.specs.Span.{Span}
 use Rattle.lists.specs.Tabulate.{tabulate, length-tabulate, getD-tabulate, tabulated}
-
--- x is in the run, or before it or after it
-pub within-true : (a k x : ℕ) → within a k x ≡ true → (a ≤ x) × (x < a + k)
-unfolding within
-within-true a k x h =
-    let b = both-true (leb a x) (ltb (x - a) k) h in
-    let l = leb-true a x (b .0) in
-    let m = ltb-true (x - a) k (b .1) in
-    (l, omega arith)
-
-pub within-cases : {A : Type 0} (a k x : ℕ) → (a ≤ x → x < a + k → A) → (within a k x ≡ false → A) → A
-within-cases a k x f g =
-    ⊎-elim (λ (t : within a k x ≡ true). let b = within-true a k x t in f (b .0) (b .1)) (λ (t : within a k x ≡ false). g t) (either-way (within a k x))
 
 -- the list with f 0, f 1, .. in its run
 unfoldable pub runSet : ℕ → ℕ → (ℕ → ℕ) → List ℕ → List ℕ

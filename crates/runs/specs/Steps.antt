@@ -6,6 +6,7 @@ use Prim.Native.Nat.{ℕ, _+_, _-_, _<_, _≤_}
 use native.Mathlib.Nat.{add-sub-cancel-left}
 use native.Mathlib.Omega.{arith}
 use lib.ListN.{length, getD, set, length-set}
+use Rattle.lists.specs.Part.{within-cases}
 use Rattle.lists.specs.Pick.{pick-false}
 use Rattle.lists.specs.Span.{Span}
 use Rattle.lists.specs.Tabulate.{fill-step}
@@ -17,7 +18,7 @@ use Rattle.parity.specs.Group.{rebuilt}
 use Rattle.plan.specs.declared.Plan.{Plan}
 use Rattle.plan.specs.Plans.{linesOf, atOf, missOf, Right, Fits, column, held}
 use Rattle.plan.specs.Held.{rank-lt, rank-apart, slot-lt, row-holds}
-use Rattle.runs.specs.Run.{within-cases, runSet, length-runSet, runSet-in, runSet-ext, runSet-twice, runSet-span, paint, paint-hit}
+use Rattle.runs.specs.Run.{runSet, length-runSet, runSet-in, runSet-ext, runSet-twice, runSet-span, paint, paint-hit}
 use Rattle.runs.specs.Held.{runOf, zeroRun, heldRun, rankPlace}
 
 -- a loop that fills the first n of an array of 16: all that a turn shows

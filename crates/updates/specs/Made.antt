@@ -10,7 +10,7 @@ use borrow.Author.Tests.{ltb-true, ltb-false}
 use lib.Dec.{ltb, eqb}
 use lib.ListN.{length, getD}
 use Rattle.lists.specs.Pick.{pick, pick-true, pick-false, either-way, both-true}
-use Rattle.lists.specs.Part.{within, within-in}
+use Rattle.lists.specs.Part.{within, within-in, within-cases}
 use Rattle.field.specs.Byte.{mul}
 use Rattle.field.specs.Sum.{sum-cong}
 use Rattle.parity.specs.Group.{content, parityOf}
@@ -18,7 +18,7 @@ use Rattle.plan.specs.declared.Plan.{Plan}
 use Rattle.plan.specs.Plans.{atOf, missOf, Fits, column, held}
 use Rattle.plan.specs.Held.{rank-lt}
 use Rattle.parity.specs.Group.{rebuilt}
-use Rattle.runs.specs.Run.{within-cases, paint, paint-hit, paint-ext}
+use Rattle.runs.specs.Run.{paint, paint-hit, paint-ext}
 use Rattle.runs.specs.Held.{heldRun, rankPlace}
 use Rattle.runs.specs.Steps.{kept-at}
 use Rattle.updates.specs.declared.Origin.{Origin}

@@ -7,7 +7,7 @@ use lib.ListN.{length}
 use Rattle.numbers.specs.Layouts.{allGroups}
 use Rattle.survey.specs.Surveyed.{Surveying}
 use Rattle.pool_repair.specs.Mending.{MendedBelow}
-use Rattle.pool_repair.specs.MendingLaws.{gone-here, few-gone, mend-begin, mend-turn, mended-length, mend-end}
+use Rattle.pool_repair.specs.MendingLaws.{gone-here, few-gone, mend-begin, mend-turn, mend-end}
 use Rattle.pool_repair.proofs.mend_groups.Statement.{statement}
 use Rattle.pool_repair.proofs.mend_groups.Tie as tie
 
@@ -27,7 +27,7 @@ begin-requires : tie.Need-begin-requires Inv-loop μ-loop
 begin-requires c κs = (c .before .before .before .pre .valid, c .before .shape-of .ensures)
 
 loop-holds : tie.Need-loop-holds Inv-loop μ-loop
-loop-holds c = (omega arith, c .begin .ensures, search needs, mend-begin _ (c .before .before .before .before .args .r) _ (c .before .before .before .before .pre))
+loop-holds c = (omega arith, c .begin .ensures, search needs, mend-begin _ _ _ (c .before .before .before .before .pre))
 
 -- a group, and few of them
 turn : (c : tie.In-loop Inv-loop μ-loop) → (c .before .loop .g < allGroups (c .before .before .before .before .before .before .args .y)) × (allGroups (c .before .before .before .before .before .before .args .y) ≤ 4194304)
@@ -50,7 +50,7 @@ mend-group-requires c κs =
         surveying = c .before .before .next .ensures .0;
         surveyed = c .before .before .next .ensures .1;
       },
-      mended-length _ (c .before .before .before .before .before .before .before .before .before .args .r) _ sound _ _ _ (c .before .before .before .before .loop .inv .3) ∙ sound .len-is,
+      c .before .before .before .before .loop .inv .3 .same ∙ sound .len-is,
       c .before .before .before .before .loop .inv .2,
     )
 
@@ -69,14 +69,14 @@ loop-again c =
       omega (arith, turn (c .before .before .before .before .before .before .before .before)),
       c .before .before .before .before .before .before .before .next .ensures .0,
       c .before .before .before .before .mend-group .kept .1 .1 .1 .1 .1 .1 .0 ∙ c .before .before .before .before .before .before .before .before .before .loop .inv .2,
-      mend-turn _ (c .before .before .before .before .before .before .before .before .before .before .before .before .before .before .args .r) _ sound _ _ _ _ _ (turn (c .before .before .before .before .before .before .before .before) .0) (gone-here _ (sound .valid) (c .before .before .before .before .before .before .before .before .before .before .before .before .before .before .args .r) (sound .good) _ _ (c .before .before .before .before .before .before .before .next .ensures .1)) (c .before .before .before .before .before .before .before .before .before .loop .inv .3) (c .before .before .before .before .mend-group .ensures),
+      mend-turn _ _ _ _ _ _ (c .before .before .before .before .before .before .before .before .before .loop .inv .3) _ _ (turn (c .before .before .before .before .before .before .before .before) .0) (gone-here _ (sound .valid) (c .before .before .before .before .before .before .before .before .before .before .before .before .before .before .args .r) (sound .good) _ _ (c .before .before .before .before .before .before .before .next .ensures .1)) (c .before .before .before .before .mend-group .ensures),
     )
 
 same-length : tie.Need-same-length Inv-loop μ-loop
-same-length c = mended-length _ (c .before .before .before .before .before .before .args .r) _ (c .before .before .before .before .before .before .pre) _ _ _ (c .before .loop .inv .3)
+same-length c = c .before .loop .inv .3 .same
 
 returns : tie.Need-returns Inv-loop μ-loop
-returns c = mend-end _ (c .before .before .before .before .before .before .args .r) _ (c .before .before .before .before .before .before .pre) _ _ _ (omega (arith, c .loop-test .left, c .before .loop .inv .0, c .before .before .before .numbers-of .ensures .groups-is)) (c .before .loop .inv .3)
+returns c = mend-end _ _ _ _ _ _ (c .before .loop .inv .3) (omega (arith, c .loop-test .left, c .before .loop .inv .0, c .before .before .before .numbers-of .ensures .groups-is))
 
 pub mend-groups-spec : {M : Type 1} → statement M
 mend-groups-spec =

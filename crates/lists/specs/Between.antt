@@ -5,9 +5,8 @@ use mathlib.Core.Bool.{Bool, true, false}
 use Prim.Native.Nat.{ℕ, _+_, _-_, _*_, _<_, _≤_}
 use native.Mathlib.Nat.{mul-le-mul-left}
 use native.Mathlib.Omega.{arith}
 use Rattle.lists.specs.Pick.{either-way, below-or-not}
-use Rattle.lists.specs.Part.{within, within-in, within-before, within-after}
-use Rattle.runs.specs.Run.{within-true}
+use Rattle.lists.specs.Part.{within, within-in, within-before, within-after, within-true}
 
 abbrev pub between : ℕ → ℕ → ℕ → Bool
 between lo hi x = within lo (hi - lo) x

@@ -8,10 +8,10 @@ use native.Mathlib.Omega.{arith}
 use borrow.Author.Tests.{ltb-true, lt-ltb, eqb-true, eq-eqb}
 use lib.Dec.{ltb, eqb}
 use lib.ListN.{length, getD}
 use Rattle.lists.specs.Pick.{pick, both, pick-true, pick-false, either-way, both-true, both-hold, clash, equal-or-not, not-both-ways}
 use Rattle.lists.specs.Tabulate.{tabulate, tabulated}
-use Rattle.groups.specs.Between.{between, between-in, between-after, between-cases}
-use Rattle.groups.specs.Lays.{Lays}
+use Rattle.lists.specs.Between.{between, between-in, between-after, between-cases}
+use Rattle.lists.specs.Lays.{Lays}
 
 -- G groups of m contents, units of u bytes, in an image of len bytes: content c of group g begins at `at g c`. For each byte its group, its
 -- content (m or more: none) and its unit offset
@@ -29,10 +29,6 @@ pick-when true a a′ b b′ e q = e refl
 pick-when false a a′ b b′ e q = q
 
 module _ (G m u len : ℕ) (at : ℕ → ℕ → ℕ) (groupOf ownOf offOf : ℕ → ℕ) (pl : Placed G m u len at groupOf ownOf offOf) where
-  -- the units of a group do not meet
-  pub placed-apart : (g : ℕ) → g < G → (c d x y : ℕ) → c < m → d < m → x < u → y < u → at g c + x ≡ at g d + y → c ≡ d
-  placed-apart g hg c d x y hc hd hx hy q = sym (pl .own-at g c x hg hc hx) ∙ ap ownOf q ∙ pl .own-at g d y hg hd hy
-
   -- what one group leaves
   pub lays-at : (g : ℕ) → g < G → (on : ℕ → ℕ → Bool) (val : ℕ → ℕ → ℕ) (img img′ : List ℕ) → length img ≡ len → Lays m u (at g) on val img img′
       → (x : ℕ) → x < len
