@@ -65,6 +65,14 @@ pub fn fitting(draws: &mut Draws, most: u64) -> Layout {
     }
 }
 
+/// A layout with frames from 1,048,576 on, which have six hex digits that matter: T as large as it may be, and as
+/// many rows a tile as groups are wide. Its image has 20 to 31 MB.
+pub fn tall(draws: &mut Draws) -> Layout {
+    let (n, k) = draws.pick(&[(15, 1), (14, 2), (16, 1), (13, 3), (16, 2), (15, 3)]);
+    let p = n + 2 * k + 1;
+    Layout { n, k, p, u: 1, t: MOST_TILES, cookie: cookie(draws) }
+}
+
 /// Whether the model can go through all groups of the layout in a short time.
 pub fn is_light(y: &Layout) -> bool {
     let numbers = y.derived();

@@ -13,6 +13,9 @@ use oracle::pool::{homes, unit_targets, Record};
 /// takes its time.
 const SIZES: [(u64, u64); 4] = [(2000, 32 << 20), (600, 4 << 20), (150, 1 << 19), (16, 1 << 14)];
 const USUAL_IMAGE: u64 = 640;
+/// One in so many pools has frames from here on, which need all six digits of a hex line.
+const TALL: u64 = 2500;
+const SIX_DIGITS: u64 = 1 << 20;
 
 /// What a call of the pool is given first: layout, record and image.
 #[derive(Clone)]
@@ -25,9 +28,7 @@ pub struct Pool {
 impl Pool {
     /// A pool of zeros with no failures, or an image that holds no file.
     fn drawn(draws: &mut Draws) -> Pool {
-        let most =
-            SIZES.iter().find(|(rare, _)| draws.one_in(*rare)).map_or(USUAL_IMAGE, |size| size.1);
-        let layout = layouts::fitting(draws, most);
+        let layout = if draws.one_in(TALL) { layouts::tall(draws) } else { Pool::usual(draws) };
         let length = layout.derived().image as usize;
         if draws.one_in(3) {
             let record = records::good(draws, &layout);
@@ -36,6 +37,12 @@ impl Pool {
             let record = records::empty(draws);
             Pool { layout, record, image: vec![0; length] }
         }
+    }
+
+    fn usual(draws: &mut Draws) -> Layout {
+        let most =
+            SIZES.iter().find(|(rare, _)| draws.one_in(*rare)).map_or(USUAL_IMAGE, |size| size.1);
+        layouts::fitting(draws, most)
     }
 
     /// The pool with something else in the place of one thing or more: mostly what a call must refuse.
@@ -94,6 +101,11 @@ fn resized(draws: &mut Draws, image: &[u8]) -> Vec<u8> {
 pub fn round(bench: &mut Bench) {
     let mut pool = Pool::drawn(&mut bench.draws);
     bench.tally.add_pool(&pool.layout);
+    if pool.layout.derived().frames > SIX_DIGITS {
+        for _ in 0..8 {
+            hex_line(bench, &pool);
+        }
+    }
     let most = if pool.image.len() > 1 << 16 { 12 } else { 60 };
     for _ in 0..bench.draws.between(10, most) {
         if bench.draws.one_in(8) {
