@@ -10,6 +10,13 @@ else
     for needed in "$CC" qemu-x86_64; do
         command -v "$needed" >/dev/null || { echo "this machine is $(uname -m), not x86-64, and $needed is not there: docs/ABI.md" >&2; exit 2; }
     done
+    probe=$(mktemp)
+    if ! { echo 'int main(void) { return 0; }' | "$CC" -x c - -o "$probe" && qemu-x86_64 "$probe"; } 2>/dev/null; then
+        rm -f "$probe"
+        echo "no x86-64 program can be linked and run here, perhaps for want of its C library: docs/ABI.md" >&2
+        exit 2
+    fi
+    rm -f "$probe"
     for RUSTC in "${RUSTC:-rustc}" /usr/bin/rustc; do
         [ -d "$("$RUSTC" --print sysroot)/lib/rustlib/x86_64-unknown-linux-gnu" ] && break
         RUSTC=
