@@ -1,21 +1,18 @@
 # shellcheck shell=sh disable=SC2034
-# Sourced by bench/run and bench/instructions, at the repository's root. Builds the archive, the twin and the driver for
-# x86-64 into target/bench, with every peer that can be linked here. Sets `driver`.
+# Sourced by bench/run and bench/instructions, at the repository's root. Builds the archive, and the twin and the driver
+# into target/bench, with every peer that can be linked here. Sets `driver`.
 #
-# SPLICEBELL_ARCHIVE_DIR=FOLDER   takes the archive there instead of building it with `rt staticlib abi`.
+# SPLICEBELL_ARCHIVE_DIR=FOLDER   takes the archive there instead of building it.
 # ZFEC=FOLDER                     where zfec's fec.c and fec.h lie; by default where Debian's python3-zfec puts them.
 . scripts/host.sh
 
 built=target/bench
-archive=${SPLICEBELL_ARCHIVE_DIR:-target/staticlib}/libabi.a
+archive=$(scripts/archive "$code")/libabi.a
 ZFEC=${ZFEC:-/usr/lib/python3/dist-packages/zfec}
 flags="-O2 -std=gnu11 -Wall -Wextra -Iinclude"
 plain_sources="timing floors coders codes pools pool_times maps catalogue growth works main"
 
 mkdir -p "$built"
-if [ -z "${SPLICEBELL_ARCHIVE_DIR:-}" ]; then
-    rt staticlib abi >"$built/archive.log" 2>&1 || { cat "$built/archive.log" >&2; exit 1; }
-fi
 "${RUSTC:-rustc}" --edition 2021 -O -C panic=abort --crate-type staticlib \
     ${CARGO_BUILD_TARGET:+--target "$CARGO_BUILD_TARGET"} -o "$built/libtwin.a" bench/twin/lib.rs
 
@@ -36,7 +33,7 @@ can_link() {
 peers=
 peer_flags=
 peer_sources=
-if can_link ISA-L isa-l.h ec_encode_data_sse -lisal; then
+if can_link ISA-L isa-l.h ec_encode_data -lisal; then
     peers="$peers -lisal" peer_flags="$peer_flags -DWITH_ISAL" peer_sources="$peer_sources bench/src/isal.c"
 fi
 if can_link jerasure jerasure.h jerasure_matrix_encode -I/usr/include/jerasure -lJerasure -lgf_complete; then

@@ -1,14 +1,20 @@
-# Sourced by every command that links the archive, which holds code for x86-64 Linux. Sets CC and runner, and
-# for cargo the target, its linker and its runner. On an x86-64 machine: cc, no runner. On any other: a cross
-# compiler, a Rust standard library for x86-64 and the emulator qemu-x86_64 (docs/ABI.md says how to get them).
-if [ "$(uname -m)" = x86_64 ]; then
+# shellcheck shell=sh disable=SC2034
+# Sourced by every command that links the archive. Sets `code`, the processor whose code is linked and run (a word for
+# scripts/archive), CC and runner, and for cargo where needed the target, its linker and its runner.
+#
+# On x86-64 and on Arm machines: the machine's own code, cc, no runner. SPLICEBELL_EMULATE=1 on an Arm machine: the
+# x86-64 code that is shipped, by a cross compiler, a Rust standard library for x86-64 and the emulator qemu-x86_64
+# (docs/ABI.md says how to get them).
+if [ "$(uname -m)" = x86_64 ] || [ "${SPLICEBELL_EMULATE:-}" != 1 ]; then
+    code=$(uname -m)
     CC=${CC:-cc}
     runner=
 else
+    code=x86_64
     CC=${CC:-x86_64-linux-gnu-gcc}
     runner=qemu-x86_64
     for needed in "$CC" qemu-x86_64; do
-        command -v "$needed" >/dev/null || { echo "this machine is $(uname -m), not x86-64, and $needed is not there: docs/ABI.md" >&2; exit 2; }
+        command -v "$needed" >/dev/null || { echo "$needed is not there: docs/ABI.md" >&2; exit 2; }
     done
     probe=$(mktemp)
     if ! { echo 'int main(void) { return 0; }' | "$CC" -x c - -o "$probe" && qemu-x86_64 "$probe"; } 2>/dev/null; then

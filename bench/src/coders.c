@@ -84,7 +84,7 @@ const struct coder *const coders[] = {
     &ours,
     &twin,
 #ifdef WITH_ISAL
-    &isal_sse,
+    &isal_by_16,
     &isal_own,
 #endif
 #ifdef WITH_JERASURE

@@ -24,7 +24,7 @@ struct coder {
 
 extern const struct coder *const coders[];
 extern const size_t coder_count;
-extern const struct coder ours, twin, isal_sse, isal_own, jerasure, zfec;
+extern const struct coder ours, twin, isal_by_16, isal_own, jerasure, zfec;
 
 /* The coefficient a(i, j) of document 01. */
 uint8_t coefficient(unsigned i, unsigned j);

@@ -38,20 +38,20 @@ static void compare(const struct coder *c, enum operation op, const struct group
 
 static void judge(enum operation op, const struct group *g, const char *peer, double ratio)
 {
-    bool sse = strcmp(peer, "ISA-L SSE") == 0, own = strcmp(peer, "ISA-L own") == 0;
+    bool own = strcmp(peer, "ISA-L own") == 0, by_16 = !own && strncmp(peer, "ISA-L", 5) == 0;
     char what[80];
     int n = g->y.n, k = g->y.k;
-    if (op == ENCODE && k > 1 && sse) {
-        snprintf(what, sizeof what, "encode %d+%d / ISA-L's SSE path", n, k);
+    if (op == ENCODE && k > 1 && by_16) {
+        snprintf(what, sizeof what, "encode %d+%d / %s", n, k, peer);
         floor_at_least(what, ratio, 0.9);
     } else if (op == ENCODE && k == 1 && own) {
-        snprintf(what, sizeof what, "encode %d+%d / ISA-L's own choice", n, k);
+        snprintf(what, sizeof what, "encode %d+%d / %s", n, k, peer);
         floor_at_least(what, ratio, 1.5);
-    } else if (op == REBUILD_ONE && sse) {
-        snprintf(what, sizeof what, "rebuild %d+%d, one lost / ISA-L's SSE path", n, k);
+    } else if (op == REBUILD_ONE && by_16) {
+        snprintf(what, sizeof what, "rebuild %d+%d, one lost / %s", n, k, peer);
         floor_at_least(what, ratio, 1.0);
-    } else if (op == REBUILD_ALL && k > 1 && sse) {
-        snprintf(what, sizeof what, "rebuild %d+%d, %d lost / ISA-L's SSE path", n, k, k);
+    } else if (op == REBUILD_ALL && k > 1 && by_16) {
+        snprintf(what, sizeof what, "rebuild %d+%d, %d lost / %s", n, k, k, peer);
         floor_at_least(what, ratio, 0.6);
     }
 }

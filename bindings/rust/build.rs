@@ -1,5 +1,6 @@
-//! Builds the archive with `rt staticlib abi` and tells cargo to link it. `SPLICEBELL_ARCHIVE_DIR` may name a
-//! folder that holds a `libabi.a` made before; then nothing is built.
+//! Builds the archive with the repository's `scripts/archive`, for the processor that cargo builds for, and tells
+//! cargo to link it. `SPLICEBELL_ARCHIVE_DIR` may name a folder that holds a `libabi.a` made before; then nothing is
+//! built.
 use std::path::{Path, PathBuf};
 use std::process::Command;
 use std::time::SystemTime;
@@ -10,9 +11,6 @@ const ARCHIVE: &str = "libabi.a";
 fn main() {
     println!("cargo:rerun-if-changed=build.rs");
     println!("cargo:rerun-if-env-changed={ARCHIVE_DIR}");
-    if std::env::var("CARGO_CFG_TARGET_ARCH").as_deref() != Ok("x86_64") {
-        println!("cargo:warning=the archive holds x86-64 code: source scripts/host.sh to link and run it");
-    }
     let folder = match std::env::var_os(ARCHIVE_DIR) {
         Some(folder) => PathBuf::from(folder),
         None => built_archive(&repository_root()),
@@ -32,16 +30,17 @@ fn repository_root() -> PathBuf {
     root.canonicalize().unwrap_or(root)
 }
 
-/// The folder of the archive. `rt` takes long also where nothing has changed, so it is not asked then.
+/// The folder of the archive. To make it takes long also where nothing has changed, so it is not made then.
 fn built_archive(root: &Path) -> PathBuf {
-    let sources = [root.join("crates"), root.join("crates.txt")];
+    let code = std::env::var("CARGO_CFG_TARGET_ARCH").expect("cargo names the processor");
+    let sources = [root.join("crates"), root.join("crates.txt"), root.join("scripts")];
     for source in &sources {
         println!("cargo:rerun-if-changed={}", source.display());
     }
-    let folder = root.join("target/staticlib");
+    let folder = root.join(if code == "x86_64" { "target/staticlib" } else { "target/arm" });
     let built = changed(&folder.join(ARCHIVE));
     if built.is_none() || built <= sources.iter().filter_map(|source| newest(source)).max() {
-        run_rt(root);
+        make_archive(root, &code);
     }
     folder
 }
@@ -60,15 +59,12 @@ fn changed(path: &Path) -> Option<SystemTime> {
     std::fs::metadata(path).ok()?.modified().ok()
 }
 
-fn run_rt(root: &Path) {
-    match Command::new("rt").args(["staticlib", "abi"]).current_dir(root).output() {
-        Err(why) => stop(&format!(
-            "the command `rt` of the Rattle kit cannot be run ({why}). Put it on PATH, or let {ARCHIVE_DIR} \
-             name a folder that holds {ARCHIVE}"
-        )),
+fn make_archive(root: &Path, code: &str) {
+    match Command::new("scripts/archive").arg(code).current_dir(root).output() {
+        Err(why) => stop(&format!("scripts/archive cannot be run: {why}")),
         Ok(run) if !run.status.success() => stop(&format!(
-            "`rt staticlib abi` failed:\n{}{}",
-            String::from_utf8_lossy(&run.stdout),
+            "the archive cannot be made. It needs the command `rt` of the Rattle kit; or let {ARCHIVE_DIR} name a \
+             folder that holds {ARCHIVE}.\n{}",
             String::from_utf8_lossy(&run.stderr)
         )),
         Ok(_) => {}
