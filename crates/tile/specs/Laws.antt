@@ -35,7 +35,7 @@ next-lt s = omega arith
 
 -- ---- lists
 
-length-own : length own ≡ 64
+pub length-own : length own ≡ 64
 unfolding own
 length-own = length-tabulate 64 (λ t. t)
 

@@ -1,6 +1,7 @@
 // The permutation of a tile: which target each column of the tile lies on.
 ghost use mathlib.Core.Path.{_≡_};
 ghost use Prim.Native.Nat.{_*_, _%_, _^_, _≤_, _<_};
+ghost use lib.ListN.{length};
 ghost use Rattle.tile.specs.Generator.{startOf, nextOf, drawOf};
 ghost use Rattle.tile.specs.Permutation.{own, exchange, permutationOf, inverseOf};
 ghost use Rattle.tile.specs.Laws.{Permutes};
@@ -73,16 +74,15 @@ fn own_indices() -> [u8; 64]
     a
 }
 
-// Entries i and j exchanged.
-fn exchanged(mut a: [u8; 64], i: usize, j: usize) -> [u8; 64]
-    requires { ⌜ (i < 64) × (j < 64) ⌝ }
-    ensures { λ r. ⌜ r ≡ exchange a i j ⌝ }
+// Exchanges entries i and j. In place: a copy of the array at each exchange would take longer than all the rest.
+fn swap(a: &mut [u8; 64], i: usize, j: usize)
+    requires { ⌜ (length (now a) ≡ 64) × (i < 64) × (j < 64) ⌝ }
+    ensures { λ _. ⌜ now (a .exit) ≡ exchange (now (a .entry)) i j ⌝ }
 {
     let x = a[i];
     let y = a[j];
     a[i] = y;
     a[j] = x;
-    a
 }
 
 // The target of each column of a tile.
@@ -96,8 +96,7 @@ pub fn permutation(p: u64, cookie: u64, tile: u64) -> [u8; 64]
     while 0 < i {
         g = g.advance();
         let j = g.draw(i);
-        let next = exchanged(a, i as usize, j as usize);
-        a = next;
+        swap(&mut a, i as usize, j as usize);
         i -= 1;
     }
     a
