@@ -14,13 +14,6 @@ use Rattle.tile.specs.Permutation.{permutationOf, inverseOf}
 use Rattle.place.specs.declared.Place.{Place}
 use Rattle.place.specs.PlaceLaws.{tiles}
 
-pub record Placing (y : Layout) (s : Shape) (to : List ℕ) (g u : ℕ) : Type 0 where
-  pub valid : Valid y
-  pub shape : Shaped y s
-  pub tile : to ≡ permutationOf (y .p) (y .cookie) (g / s .c)
-  pub group : g < allGroups y
-  pub unit : u < width y
-
 pub record Holding (y : Layout) (s : Shape) (from : List ℕ) (r t : ℕ) : Type 0 where
   pub valid : Valid y
   pub shape : Shaped y s
@@ -28,30 +21,25 @@ pub record Holding (y : Layout) (s : Shape) (from : List ℕ) (r t : ℕ) : Type
   pub frame : r < frames y
   pub target : t < y .p
 
--- the bounds of what stands on the way to a place
-pub record PlacingFits (y : Layout) (s : Shape) (to : List ℕ) (g u : ℕ) : Type 0 where
+-- the bounds of what stands on the way to a cell
+pub record CellFits (y : Layout) (s : Shape) (g u : ℕ) : Type 0 where
   pub width-few : s .w ≤ 22
   pub row : s .w * (g % s .c) ≤ 1408
   pub frame : s .l * (g / s .c) ≤ 1441792
   pub row-frame : (s .w * (g % s .c) + u) / y .p ≤ s .w * (g % s .c) + u
-  pub column : (s .w * (g % s .c) + u) % y .p < y .p
-  pub target : at to ((s .w * (g % s .c) + u) % y .p) < y .p
 
-pub placing-fits : (y : Layout) (s : Shape) (to : List ℕ) (g u : ℕ) → Placing y s to g u → PlacingFits y s to g u
-placing-fits y s to g u a =
-    let v = a .valid in
-    let z = a .shape in
+pub cell-fits : (y : Layout) (s : Shape) (g u : ℕ) → Valid y × Shaped y s × (g < allGroups y) × (u < width y) → CellFits y s g u
+cell-fits y s g u a =
+    let v = a .0 in
+    let z = a .1 in
     let wide : s .w ≤ 22 = omega arith in
     let row : g % s .c ≤ 64 = omega (arith, mod-lt g (z .c-some)) in
-    let tile : g / s .c ≤ 65536 = omega (arith, div-below g (s .c) (y .t) (z .c-some) (subst (λ (c : ℕ). g < c * y .t) (sym (z .c-is)) (a .group))) in
-    let column : (s .w * (g % s .c) + u) % y .p < y .p = mod-lt (s .w * (g % s .c) + u) (let h : 0 < y .p = omega arith in h) in
+    let tile : g / s .c ≤ 65536 = omega (arith, div-below g (s .c) (y .t) (z .c-some) (subst (λ (c : ℕ). g < c * y .t) (sym (z .c-is)) (a .2))) in
     record {
       width-few = wide;
       row = omega (arith, mul-le-mul wide row);
       frame = omega (arith, mul-le-mul (z .l-few) tile);
       row-frame = div-le-self (s .w * (g % s .c) + u) (y .p);
-      column = column;
-      target = subst (λ (l : List ℕ). at l ((s .w * (g % s .c) + u) % y .p) < y .p) (sym (a .tile)) (tiles y v (g / s .c) .into ((s .w * (g % s .c) + u) % y .p) column);
     }
 
 -- the same on the way to a unit

@@ -1,17 +1,24 @@
 -- The laws of units and places, for a layout.
-use mathlib.Core.Path.{_≡_}
-use Prim.Native.Nat.{ℕ, _+_, _*_, _≤_, _<_}
+use mathlib.Core.Path.{_≡_, ap, _∙_}
+use mathlib.Core.List.{List}
+use Prim.Native.Nat.{ℕ, _+_, _*_, _/_, _≤_, _<_}
 use native.Mathlib.Nat.{le-refl}
 use native.Mathlib.Omega.{arith}
+use Rattle.lists.specs.Tabulate.{at}
 use Rattle.lists.specs.Bijection.{Bijection}
 use Rattle.numbers.specs.declared.Layout.{Layout}
+use Rattle.numbers.specs.declared.Shape.{Shape}
+use Rattle.numbers.specs.Answers.{Shaped}
 use Rattle.numbers.specs.Layouts.{Valid, width, rows, groups, frames, allGroups}
 use Rattle.numbers.specs.Shapes.{width-groups-rows, rows-pos, groups-pos}
+use Rattle.tile.specs.Permutation.{permutationOf}
 use Rattle.tile.specs.Laws.{permutation-inverse}
-use Rattle.place.specs.Units.{Tiled}
+use Rattle.place.specs.declared.Cell.{Cell}
+use Rattle.place.specs.declared.Place.{Place}
+use Rattle.place.specs.Units.{Tiled, targetOf}
 use Rattle.place.specs.UnitLaws as U
 use Rattle.place.specs.Load as L
-use Rattle.place.specs.Places.{widthsOf, targetsOf, columnsOf, placeOf, unitOf}
+use Rattle.place.specs.Places.{widthsOf, targetsOf, columnsOf, cellOf, placeOf, unitOf}
 
 module _ (y : Layout) (v : Valid y) where
   pub tiled : Tiled (widthsOf y)
@@ -28,6 +35,26 @@ module _ (y : Layout) (v : Valid y) where
   pub back-and-there : (r t : ℕ) → t < y .p → placeOf y (unitOf y r t .group) (unitOf y r t .unit) ≡ record { frame = r; target = t }
   unfolding placeOf unitOf
   back-and-there r t h = λ i. record { frame = U.frame-back (widthsOf y) tiled (targetsOf y) (columnsOf y) tiles r t h i; target = U.target-back (widthsOf y) tiled (targetsOf y) (columnsOf y) tiles r t h i }
+
+  pub cell-in : (g u : ℕ) → u < width y → g < allGroups y → (cellOf y g u .frame < frames y) × (cellOf y g u .column < y .p)
+  unfolding cellOf
+  cell-in g u h k = (U.frame-lt (widthsOf y) tiled (y .t) g u h k, U.column-lt (widthsOf y) tiled g u)
+
+  -- the cell counted after that of unit u is that of unit u + 1
+  pub next-cell : (g u : ℕ) (a r : Cell) → a ≡ cellOf y g u → r .column < y .p → y .p * r .frame + r .column ≡ y .p * a .frame + a .column + 1 → r ≡ cellOf y g (u + 1)
+  unfolding cellOf
+  next-cell g u a r e h n =
+      let q = U.next-cell (widthsOf y) tiled g u (r .frame) (r .column) h (n ∙ ap (λ (x : Cell). y .p * x .frame + x .column + 1) e) in
+      λ i. record { frame = q .0 i; column = q .1 i }
+
+  -- what the permutation in hand makes of a unit's cell is the unit's place
+  pub place-at : (s : Shape) → Shaped y s → (to : List ℕ) (g u : ℕ) (a : Cell) (r : Place) → to ≡ permutationOf (y .p) (y .cookie) (g / s .c) → a ≡ cellOf y g u
+      → (r .frame ≡ a .frame) × (r .target ≡ at to (a .column)) → r ≡ placeOf y g u
+  unfolding cellOf placeOf targetOf
+  place-at s z to g u a r t e h =
+      (λ i. record { frame = h .0 i; target = h .1 i })
+      ∙ (λ i. record { frame = e i .frame; target = at (t i) (e i .column) })
+      ∙ ap (λ (c : ℕ). record { frame = cellOf y g u .frame; target = targetsOf y (g / c) (cellOf y g u .column) }) (z .c-is)
 
   pub place-in : (g u : ℕ) → u < width y → g < allGroups y → (placeOf y g u .frame < frames y) × (placeOf y g u .target < y .p)
   unfolding placeOf

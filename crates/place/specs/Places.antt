@@ -4,9 +4,10 @@ use Rattle.lists.specs.Tabulate.{at}
 use Rattle.numbers.specs.declared.Layout.{Layout}
 use Rattle.numbers.specs.Layouts.{width, rows, groups}
 use Rattle.tile.specs.Permutation.{permutationOf, inverseOf}
+use Rattle.place.specs.declared.Cell.{Cell}
 use Rattle.place.specs.declared.Place.{Place}
 use Rattle.place.specs.declared.Unit.{Unit}
-use Rattle.place.specs.Units.{Widths, frameOf, targetOf, groupAt, unitAt}
+use Rattle.place.specs.Units.{Widths, columnOf, frameOf, targetOf, groupAt, unitAt}
 
 abbrev pub widthsOf : Layout → Widths
 widthsOf y = record { w = width y; p = y .p; l = rows y; c = groups y }
@@ -17,6 +18,10 @@ targetsOf y tile column = at (permutationOf (y .p) (y .cookie) tile) column
 
 abbrev pub columnsOf : Layout → ℕ → ℕ → ℕ
 columnsOf y tile target = at (inverseOf (permutationOf (y .p) (y .cookie) tile)) target
+
+-- the cell of unit u of group g
+unfoldable pub cellOf : Layout → ℕ → ℕ → Cell
+cellOf y g u = record { frame = frameOf (widthsOf y) g u; column = columnOf (widthsOf y) g u }
 
 -- the place of unit u of group g, and the unit in frame r of target t
 unfoldable pub placeOf : Layout → ℕ → ℕ → Place

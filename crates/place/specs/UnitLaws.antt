@@ -1,12 +1,13 @@
--- Unit to frame and frame to unit undo each other, and the units of a group lie on different targets: for any permutation of each tile.
+-- Unit to frame and frame to unit undo each other, and the units of a group lie in one cell after another and on different targets: for any
+-- permutation of each tile.
 use mathlib.Core.Path.{_≡_, sym, ap, _∙_, subst}
 use Prim.Native.Nat.{ℕ, _+_, _*_, _/_, _%_, _≤_, _<_}
-use native.Mathlib.Nat.{mod-lt, div-add-mod, lt-of-lt-of-le}
+use native.Mathlib.Nat.{mod-lt, mul-add, div-add-mod, lt-of-lt-of-le}
 use native.Mathlib.Omega.{arith}
 use Rattle.lists.specs.Pick.{below-or-not}
 use Rattle.lists.specs.Digits.{div-of, mod-of, digits-below, div-below, close}
 use Rattle.lists.specs.Bijection.{Bijection, injective}
-use Rattle.place.specs.Units.{Widths, Tiled, inTile, frameOf, targetOf, atPlace, groupAt, unitAt}
+use Rattle.place.specs.Units.{Widths, Tiled, inTile, columnOf, frameOf, targetOf, atPlace, groupAt, unitAt}
 
 module _ (y : Widths) (v : Tiled y) where
   targets : 0 < y .p
@@ -32,10 +33,30 @@ module _ (y : Widths) (v : Tiled y) where
   unfolding frameOf
   frame-lt T g u h k = digits-below (div-below g (y .c) T (v .groups) k) (row-lt g u h)
 
+  pub column-lt : (g u : ℕ) → columnOf y g u < y .p
+  column-lt g u = mod-lt (inTile y g u) targets
+
+  -- ---- the unit after
+
+  -- cells counted row by row: a group's units follow each other
+  cell-number : (g u : ℕ) → y .p * frameOf y g u + columnOf y g u ≡ y .p * (y .l * (g / y .c)) + inTile y g u
+  unfolding frameOf
+  cell-number g u = omega (arith, mul-add (y .p) (y .l * (g / y .c)) (inTile y g u / y .p), div-add-mod (inTile y g u) (y .p))
+
+  -- so the cell after that of unit u, by this count, is that of unit u + 1
+  pub next-cell : (g u f c : ℕ) → c < y .p → y .p * f + c ≡ y .p * frameOf y g u + columnOf y g u + 1 → (f ≡ frameOf y g (u + 1)) × (c ≡ columnOf y g (u + 1))
+  next-cell g u f c h e = (
+    sym (div-of (y .p) f h) ∙ ap (λ (n : ℕ). n / y .p) same ∙ div-of (y .p) (frameOf y g (u + 1)) (column-lt g (u + 1)),
+    sym (mod-of (y .p) f h) ∙ ap (λ (n : ℕ). n % y .p) same ∙ mod-of (y .p) (frameOf y g (u + 1)) (column-lt g (u + 1)),
+  )
+    where
+      same : y .p * f + c ≡ y .p * frameOf y g (u + 1) + columnOf y g (u + 1)
+      same = omega (arith, e, cell-number g u, cell-number g (u + 1))
+
   module _ (π ρ : ℕ → ℕ → ℕ) (b : (tile : ℕ) → Bijection (y .p) (π tile) (ρ tile)) where
     pub target-lt : (g u : ℕ) → targetOf y π g u < y .p
     unfolding targetOf
-    target-lt g u = b (g / y .c) .into (inTile y g u % y .p) (mod-lt (inTile y g u) targets)
+    target-lt g u = b (g / y .c) .into (columnOf y g u) (column-lt g u)
 
     -- ---- there and back
 
@@ -44,7 +65,7 @@ module _ (y : Widths) (v : Tiled y) where
     atPlace-is g u h =
         ap (λ (r : ℕ). y .p * r + ρ (frameOf y g u / y .l) (targetOf y π g u)) (frame-row g u h)
         ∙ ap (λ (k : ℕ). y .p * (inTile y g u / y .p) + ρ k (targetOf y π g u)) (frame-tile g u h)
-        ∙ ap (λ (k : ℕ). y .p * (inTile y g u / y .p) + k) (b (g / y .c) .back (inTile y g u % y .p) (mod-lt (inTile y g u) targets))
+        ∙ ap (λ (k : ℕ). y .p * (inTile y g u / y .p) + k) (b (g / y .c) .back (columnOf y g u) (column-lt g u))
         ∙ div-add-mod (inTile y g u) (y .p)
 
     pub group-back : (g u : ℕ) → u < y .w → groupAt y ρ (frameOf y g u) (targetOf y π g u) ≡ g
@@ -103,7 +124,7 @@ module _ (y : Widths) (v : Tiled y) where
 
     -- ---- no two units of a group share a target
 
-    columns-apart : (g u u′ : ℕ) → u ≤ u′ → u′ < y .w → inTile y g u % y .p ≡ inTile y g u′ % y .p → u ≡ u′
+    columns-apart : (g u u′ : ℕ) → u ≤ u′ → u′ < y .w → columnOf y g u ≡ columnOf y g u′ → u ≡ u′
     columns-apart g u u′ le h e =
         let enough = v .enough in
         let same : inTile y g u ≡ inTile y g u′ = close (y .p) (inTile y g u) (inTile y g u′) targets (omega arith) (omega arith) e in
@@ -114,5 +135,5 @@ module _ (y : Widths) (v : Tiled y) where
     targets-apart g u u′ h h′ e =
         below-or-not u u′ (λ (l : u < u′). columns-apart g u u′ (omega arith) h′ columns) (λ (l : u′ ≤ u). sym (columns-apart g u′ u l h (sym columns)))
       where
-        columns : inTile y g u % y .p ≡ inTile y g u′ % y .p
-        columns = injective (b (g / y .c)) (inTile y g u % y .p) (inTile y g u′ % y .p) (mod-lt (inTile y g u) targets) (mod-lt (inTile y g u′) targets) e
+        columns : columnOf y g u ≡ columnOf y g u′
+        columns = injective (b (g / y .c)) (columnOf y g u) (columnOf y g u′) (column-lt g u) (column-lt g u′) e

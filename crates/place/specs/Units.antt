@@ -21,11 +21,14 @@ abbrev pub inTile : Widths → ℕ → ℕ → ℕ
 inTile y g u = y .w * (g % y .c) + u
 
 -- "row x div P, column x mod P; frame = L·tile + x div P, target = permutation(column)"; π is the permutation of each tile
+abbrev pub columnOf : Widths → ℕ → ℕ → ℕ
+columnOf y g u = inTile y g u % y .p
+
 unfoldable pub frameOf : Widths → ℕ → ℕ → ℕ
 frameOf y g u = y .l * (g / y .c) + inTile y g u / y .p
 
 unfoldable pub targetOf : Widths → (ℕ → ℕ → ℕ) → ℕ → ℕ → ℕ
-targetOf y π g u = π (g / y .c) (inTile y g u % y .p)
+targetOf y π g u = π (g / y .c) (columnOf y g u)
 
 -- "The inverse turns each step back": the number within its tile of what lies in frame r of target t; ρ is the inverse of each permutation
 abbrev pub atPlace : Widths → (ℕ → ℕ → ℕ) → ℕ → ℕ → ℕ

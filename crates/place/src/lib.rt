@@ -2,12 +2,19 @@
 use numbers::Layout;
 use numbers::Shape;
 ghost use mathlib.Core.Path.{_≡_};
-ghost use Prim.Native.Nat.{_<_};
+ghost use Prim.Native.Nat.{ℕ, _+_, _<_};
+ghost use Rattle.lists.specs.Tabulate.{at};
 ghost use Rattle.numbers.specs.Layouts.{Valid, width, frames, allGroups, imageLength};
 ghost use Rattle.numbers.specs.Answers.{Shaped};
-ghost use Rattle.place.specs.Places.{placeOf, unitOf};
+ghost use Rattle.place.specs.Places.{cellOf, placeOf, unitOf};
 ghost use Rattle.place.specs.Bytes.{spotOf};
-ghost use Rattle.place.specs.Asked.{Placing, Holding};
+ghost use Rattle.place.specs.Asked.{Holding};
+
+// A column of the row of one frame of each target: the permutation of the row's tile tells the column's target.
+pub struct Cell {
+    pub frame: u64,
+    pub column: u64,
+}
 
 // A frame of a target.
 pub struct Place {
@@ -22,20 +29,53 @@ pub struct Unit {
     pub unit: u64,
 }
 
-// The place of unit u of group g, by the permutation of the group's tile.
-pub fn place_in(y: Layout, s: Shape, to: &[u8; 64], g: u64, u: u64) -> Place
-    requires { ⌜ Placing y s (now to) g u ⌝ }
-    ensures { λ r. ⌜ r ≡ placeOf y g u ⌝ }
+// The cell of unit u of group g.
+pub fn cell_of(y: Layout, s: Shape, g: u64, u: u64) -> Cell
+    requires { ⌜ Valid y × Shaped y s × (g < allGroups y) × (u < width y) ⌝ }
+    ensures { λ r. ⌜ r ≡ cellOf y g u ⌝ }
 {
     let p = y.p;
     let w = s.w;
     let l = s.l;
     let c = s.c;
     let x = w * (g % c) + u;
-    let column = (x % p) as usize;
-    Place {
+    Cell {
         frame: l * (g / c) + x / p,
-        target: to[column] as u64,
+        column: x % p,
+    }
+}
+
+// The cell of the next unit of a group, with no division: the next column, or the first of the next row.
+pub fn next_cell(y: Layout, a: Cell) -> Cell
+    requires { ⌜ Valid y × (a .frame < frames y) × (a .column < y .p) ⌝ }
+    ensures { λ r. ⌜ ((g u : ℕ) → a ≡ cellOf y g u → r ≡ cellOf y g (u + 1)) ⌝ }
+{
+    let frame = a.frame;
+    let column = a.column + 1;
+    if column == y.p {
+        return Cell {
+            frame: frame + 1,
+            column: 0,
+        };
+    }
+    Cell { frame, column }
+}
+
+fn wide(x: u8) -> u64
+    ensures { λ r. ⌜ r ≡ x ⌝ }
+{
+    x as u64
+}
+
+// The place at a cell, by the permutation of its tile.
+pub fn place_at(to: &[u8; 64], a: Cell) -> Place
+    requires { ⌜ a .column < 64 ⌝ }
+    ensures { λ r. ⌜ (r .frame ≡ a .frame) × (r .target ≡ at (now (to .entry)) (a .column)) ⌝ }
+{
+    let column = a.column as usize;
+    Place {
+        frame: a.frame,
+        target: wide(to[column]),
     }
 }
 
@@ -56,15 +96,17 @@ pub fn unit_in(y: Layout, s: Shape, from: &[u8; 64], r: u64, t: u64) -> Unit
     }
 }
 
-// The same, working out the permutation too.
+// The place of unit u of group g, working out the permutation too.
 pub fn place_of(y: Layout, s: Shape, g: u64, u: u64) -> Place
     requires { ⌜ Valid y × Shaped y s × (g < allGroups y) × (u < width y) ⌝ }
     ensures { λ r. ⌜ r ≡ placeOf y g u ⌝ }
 {
     let to = tile::permutation(y.p, y.cookie, g / s.c);
-    place_in(y, s, &to, g, u)
+    let a = cell_of(y, s, g, u);
+    place_at(&to, a)
 }
 
+// The unit in frame r of target t, working out the inverse too.
 pub fn unit_of(y: Layout, s: Shape, r: u64, t: u64) -> Unit
     requires { ⌜ Valid y × Shaped y s × (r < frames y) × (t < y .p) ⌝ }
     ensures { λ q. ⌜ q ≡ unitOf y r t ⌝ }

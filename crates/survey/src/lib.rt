@@ -22,7 +22,7 @@ pub struct Sites {
     pub starts: [usize; 22],
 }
 
-// Every place of the group is worked out once: it takes divisions.
+// The divisions are made once a group, for its first unit: the others lie in one cell after another.
 fn sites_of(y: Layout, s: Shape, to: &[u8; 64], g: u64) -> Sites
     requires { ⌜ InTile y s (now to) g ⌝ }
     ensures { λ r. ⌜ Sited y g r ⌝ }
@@ -30,12 +30,14 @@ fn sites_of(y: Layout, s: Shape, to: &[u8; 64], g: u64) -> Sites
     let w = s.w as usize;
     let mut targets = [0u8; 22];
     let mut starts = [0usize; 22];
+    let mut cell = place::cell_of(y, s, g, 0);
     let mut u: usize = 0;
     while u < w {
-        let a = place::place_in(y, s, to, g, u as u64);
+        let a = place::place_at(to, cell);
         let start = place::spot_of(y, s, a, 0);
         targets[u] = a.target as u8;
         starts[u] = start as usize;
+        cell = place::next_cell(y, cell);
         u += 1;
     }
     Sites { targets, starts }
