@@ -210,7 +210,7 @@ fn add_block(out: &mut [u8], b: &[u8; 128], o: usize, m: usize)
 }
 
 // Puts the first m bytes of b in place of those from o on.
-fn put_block(out: &mut [u8], b: &[u8; 128], o: usize, m: usize)
+pub fn put_block(out: &mut [u8], b: &[u8; 128], o: usize, m: usize)
     requires { ⌜ (m ≤ 128) × (o + m ≤ length (now out)) ⌝ }
     ensures { λ _. ⌜ Span (λ y. getD (now (b .entry)) (y - o) 0) o (o + m) (now (out .entry)) (now (out .exit)) ⌝ }
 {

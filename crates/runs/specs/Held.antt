@@ -1,6 +1,8 @@
 -- Runs of bytes: of a list, of zeros, and of a content.
+use mathlib.Core.Path.{_≡_, ap}
 use mathlib.Core.List.{List}
 use Prim.Native.Nat.{ℕ, _+_, _*_}
+use native.Mathlib.Nat.{add-assoc}
 use lib.ListN.{getD}
 use Rattle.plan.specs.declared.Plan.{Plan}
 use Rattle.plan.specs.Plans.{held}
@@ -8,6 +10,10 @@ use Rattle.plan.specs.Plans.{held}
 -- the bytes of a list from `from` on
 unfoldable pub runOf : List ℕ → ℕ → ℕ → ℕ
 runOf src from o = getD src (from + o) 0
+
+pub runOf-more : (src : List ℕ) (from i o : ℕ) → runOf src (from + i) o ≡ runOf src from (i + o)
+unfolding runOf
+runOf-more src from i o = ap (λ (x : ℕ). getD src x 0) (add-assoc from i o)
 
 unfoldable pub zeroRun : ℕ → ℕ
 zeroRun o = 0

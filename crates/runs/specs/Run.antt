@@ -90,6 +90,29 @@ runSet-turn to i f l₀ l v b e ev =
 pub runSet-end : (to i n : ℕ) (f : ℕ → ℕ) (l₀ l : List ℕ) → l ≡ runSet to i f l₀ → i ≡ n → l ≡ runSet to n f l₀
 runSet-end to i n f l₀ l e h = cc
 
+-- a loop that fills a run piece by piece: m elements after the first i
+pub runSet-more : (to i m n : ℕ) (f g : ℕ → ℕ) (l₀ l l′ : List ℕ) → n ≡ i + m → to + n ≤ length l₀ → ((o : ℕ) → o < m → g o ≡ f (i + o))
+    → l ≡ runSet to i f l₀ → l′ ≡ runSet (to + i) m g l → l′ ≡ runSet to n f l₀
+runSet-more to i m n f g l₀ l l′ q b h e e′ =
+    runSet-is to n f l₀ l′ (ap length e′ ∙ length-runSet (to + i) m g l ∙ len) b
+    (λ o k. ap (λ (x : List ℕ). getD x (to + o) 0) e′ ∙ below-or-not o i (λ (a : o < i).
+    runSet-out (to + i) m g l (to + o) (omega (arith, len)) (outside-before o a) ∙ ap (λ (x : List ℕ). getD x (to + o) 0) e ∙ runSet-in to i f l₀ o a (omega arith))
+    (λ (a : i ≤ o).
+    let w : to + i + (o - i) ≡ to + o = omega arith in
+    let v : i + (o - i) ≡ o = omega arith in
+    ap (λ (y : ℕ). getD (runSet (to + i) m g l) y 0) (sym w) ∙ runSet-in (to + i) m g l (o - i) (omega arith) (omega (arith, len)) ∙ h (o - i) (omega arith) ∙ ap f v))
+    (λ x k w.
+    ap (λ (y : List ℕ). getD y x 0) e′
+    ∙ runSet-out (to + i) m g l x (omega (arith, len)) (within-cases (to + i) m x (λ p r. clash (within to n x) (within-in to n x (omega arith) (omega arith)) w) (λ u. u))
+    ∙ ap (λ (y : List ℕ). getD y x 0) e
+    ∙ runSet-out to i f l₀ x k (within-cases to i x (λ p r. clash (within to n x) (within-in to n x p (omega arith)) w) (λ u. u)))
+  where
+    len : length l ≡ length l₀
+    len = ap length e ∙ length-runSet to i f l₀
+
+    outside-before : (o : ℕ) → o < i → within (to + i) m (to + o) ≡ false
+    outside-before o a = within-cases (to + i) m (to + o) (λ p r. absurd (let z : o < o = omega arith in lt-irrefl o z)) (λ u. u)
+
 -- the same, told byte by byte
 pub runSet-span : (to len : ℕ) (f g : ℕ → ℕ) (l m : List ℕ) → to + len ≤ length l → Span f to (to + len) l m → ((o : ℕ) → o < len → f (to + o) ≡ g o)
     → m ≡ runSet to len g l

@@ -4,6 +4,7 @@ ghost use mathlib.Core.Bool.{true};
 ghost use Prim.Native.Nat.{ℕ, _+_, _*_, _<_, _≤_};
 ghost use lib.ListN.{length, getD};
 ghost use Rattle.lists.specs.Pick.{pick};
+ghost use Rattle.kernel.specs.Plan.{Filled};
 ghost use Rattle.plan.specs.Plans.{atOf, missOf, Fits};
 ghost use Rattle.runs.specs.Run.{runSet, paint};
 ghost use Rattle.runs.specs.Held.{runOf, zeroRun, heldRun, rankPlace};
@@ -21,16 +22,41 @@ pub fn clear_run(out: &mut [u8], to: usize, len: usize)
     }
 }
 
-// The `len` bytes of `src` from `from` on, in those of `out` from `to` on.
+// m bytes of `src` from `from` on.
+fn taken(src: &[u8], from: usize, m: usize) -> [u8; 128]
+    requires { ⌜ (m ≤ 128) × (from + m ≤ length (now src)) ⌝ }
+    ensures { λ r. ⌜ Filled (runOf (now (src .entry)) from) m r ⌝ }
+{
+    let mut b = [0u8; 128];
+    let mut i: usize = 0;
+    while i < m {
+        b[i] = src[from + i];
+        i += 1;
+    }
+    b
+}
+
+// At most 128 bytes of `src` from `from` on, in those of `out` from `to` on.
+fn put_piece(out: &mut [u8], to: usize, src: &[u8], from: usize, m: usize)
+    requires { ⌜ (m ≤ 128) × (to + m ≤ length (now out)) × (from + m ≤ length (now src)) ⌝ }
+    ensures { λ _. ⌜ now (out .exit) ≡ runSet to m (runOf (now (src .entry)) from) (now (out .entry)) ⌝ }
+{
+    let b = taken(src, from, m);
+    kernel::put_block(out, &b, to, m);
+}
+
+// The `len` bytes of `src` from `from` on, in those of `out` from `to` on. Whole pieces have the literal 128 for m: once inlined they are eight
+// loads and eight stores, whether or not the two slices might overlap for all the compiler knows.
 pub fn put_run(out: &mut [u8], to: usize, src: &[u8], from: usize, len: usize)
     requires { ⌜ (to + len ≤ length (now out)) × (from + len ≤ length (now src)) ⌝ }
     ensures { λ _. ⌜ now (out .exit) ≡ runSet to len (runOf (now (src .entry)) from) (now (out .entry)) ⌝ }
 {
     let mut i: usize = 0;
-    while i < len {
-        out[to + i] = src[from + i];
-        i += 1;
+    while 128 <= len - i {
+        put_piece(out, to + i, src, from + i, 128);
+        i += 128;
     }
+    put_piece(out, to + i, src, from + i, len - i);
 }
 
 // Where the units of the slots begin, from unit offset lo on.
