@@ -1,9 +1,8 @@
 -- The loop that sets the parity units, one run each: a turn, and that it comes to the whole.
 use mathlib.Core.Path.{_≡_, refl, sym, ap, ap₂, _∙_, subst⁻¹}
-use mathlib.Core.Logic.{inl}
 use mathlib.Core.List.{List, [], _∷_}
 use Prim.Native.Nat.{ℕ, _+_, _-_, _*_, _/_, _%_, _<_, _≤_}
-use native.Mathlib.Nat.{div-add-mod', div-lt-iff-lt-mul, mul-le-mul-right}
+use native.Mathlib.Nat.{div-add-mod', div-lt-iff-lt-mul}
 use native.Mathlib.Omega.{arith}
 use lib.Arith.{digits-lt, digits-div, digits-mod}
 use lib.ListN.{length, getD}
@@ -19,10 +18,10 @@ use Rattle.systems.specs.Coef.{coef}
 use Rattle.parity.specs.Group.{parityOf, content}
 use Rattle.parity.specs.Content.{content-data, content-parity}
 use Rattle.coding.specs.Buffer.{column, contentByte, encodedOf}
-use Rattle.coding.specs.Units.{unit-end}
+use Rattle.coding.specs.Units.{units-apart}
 
 -- the data units' numbers as the code holds them
-abbrev dataUnits : List ℕ
+abbrev pub dataUnits : List ℕ
 dataUnits = 0 ∷ 1 ∷ 2 ∷ 3 ∷ 4 ∷ 5 ∷ 6 ∷ 7 ∷ 8 ∷ 9 ∷ 10 ∷ 11 ∷ 12 ∷ 13 ∷ 14 ∷ 15 ∷ []
 
 pub data-unit-at : (j : ℕ) → j < 16 → getD dataUnits j 0 ≡ j
@@ -63,12 +62,7 @@ module _ (n unit : ℕ) (pos : 0 < unit) (old : List ℕ) where
 
     -- the data units lie before the parity unit
     pub data-apart : (k at size : ℕ) → i < k → at ≡ (n + i) * unit → size ≡ (n + k) * unit → (j : ℕ) → j < n → Apart (getD starts j 0) at unit size
-    data-apart k at size h q p j l =
-        let a = unit-end j n unit l in
-        let b : n * unit ≤ (n + i) * unit = mul-le-mul-right unit (omega arith) in
-        let c = unit-end (n + i) (n + k) unit (omega arith) in
-        let e = r .starts-at j l in
-        record { inside = omega arith; aside = inl (omega arith) }
+    data-apart k at size h q p j l = units-apart j (n + i) (n + k) unit (r .starts-at j l) q (omega arith) (omega arith) (λ (e : j ≡ n + i). omega arith)
 
   pub encode-all : (at : ℕ) (new : List ℕ) → at ≡ length old → Span (contentByte n unit old) (n * unit) at old new → new ≡ encodedOf n unit old
   unfolding encodedOf

@@ -1,10 +1,12 @@
 // Encoding and rebuilding of one group in one buffer, unit by unit, through the kernel.
 ghost use mathlib.Core.Path.{_≡_};
-ghost use Prim.Native.Nat.{ℕ, _+_, _*_, _<_, _≤_};
+ghost use Prim.Native.Nat.{ℕ, _+_, _-_, _*_, _<_, _≤_};
 ghost use lib.ListN.{length, getD};
+ghost use Rattle.lists.specs.Span.{Span};
 ghost use Rattle.parity.specs.Matrix.{flag};
-ghost use Rattle.parity.specs.Group.{Solvable};
+ghost use Rattle.parity.specs.Group.{Solvable, lost};
 ghost use Rattle.coding.specs.Buffer.{encodedOf, rebuiltOf};
+ghost use Rattle.coding.specs.Closing.{closingOf, closingSum};
 
 const DATA_UNITS: [usize; 16] = [0, 1, 2, 3, 4, 5, 6, 7, 8, 9, 10, 11, 12, 13, 14, 15];
 
@@ -38,7 +40,32 @@ pub fn encode(buf: &mut [u8], n: usize, k: usize, unit: usize)
     }
 }
 
-// Fills the missing units of a group of n data and k parity units.
+// Which missing unit `fill_last` can fill, counted from 1: the last lost data unit, where parity unit 0 is there; 0 for none.
+fn closing(miss: [bool; 19], n: usize) -> usize
+    requires { ⌜ (n ≤ 16) × (length (lost n (flag miss)) ≤ 3) ⌝ }
+    ensures { λ r. ⌜ r ≡ closingOf n (flag miss) ⌝ }
+{
+    let gone = parity::missing_below(miss, n);
+    if miss[n] {
+        return 0;
+    }
+    gone.count
+}
+
+// Fills data unit u, where the other data units and parity unit 0 are right. Parity unit 0 has ones for coefficients, so that u is the plain sum of
+// those: one pass of the kernel, where a row of other coefficients takes one for each digit.
+fn fill_last(buf: &mut [u8], n: usize, unit: usize, u: usize)
+    requires { ⌜ (n ≤ 16) × (u < n) × (n * unit + unit ≤ length (now buf)) ⌝ }
+    ensures { λ _. ⌜ Span (λ y. closingSum n unit u (now (buf .entry)) (y - u * unit)) (u * unit) (u * unit + unit) (now (buf .entry)) (now (buf .exit)) ⌝ }
+{
+    let mut units = DATA_UNITS;
+    units[u] = n;
+    let starts = starts_of(units, n, unit, buf.len());
+    let ones = [1u8; 16];
+    kernel::combine_in(buf, u * unit, &starts, &ones, n, unit);
+}
+
+// Fills the missing units of a group of n data and k parity units, lowest first.
 pub fn rebuild(buf: &mut [u8], n: usize, k: usize, unit: usize, miss: [bool; 19])
     requires { ⌜ Solvable n k (flag miss) × (0 < unit) × (length (now buf) ≡ (n + k) * unit) ⌝ }
     ensures { λ _. ⌜ now (buf .exit) ≡ rebuiltOf n k unit (flag miss) (now (buf .entry)) ⌝ }
@@ -46,13 +73,18 @@ pub fn rebuild(buf: &mut [u8], n: usize, k: usize, unit: usize, miss: [bool; 19]
     let gone = parity::missing_below(miss, n + k);
     let units = gone.at;
     let total = gone.count;
+    let last = closing(miss, n);
     let rows = parity::rows(miss, n, k);
     let starts = starts_of(parity::slots(miss, n, k), n, unit, buf.len());
     let mut q = 0;
     while q < total {
         let u = units[q];
-        let coefs = rows[q];
-        kernel::combine_in(buf, u * unit, &starts, &coefs, n, unit);
+        if q + 1 == last {
+            fill_last(buf, n, unit, u);
+        } else {
+            let coefs = rows[q];
+            kernel::combine_in(buf, u * unit, &starts, &coefs, n, unit);
+        }
         q += 1;
     }
 }

@@ -4,6 +4,7 @@ pub mod Restores
 pub mod Lowest
 pub mod Rows
 pub mod Local
+pub mod Closing
 pub mod Matrix
 pub mod Steps
 pub mod Made

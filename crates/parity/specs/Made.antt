@@ -51,7 +51,7 @@ module _ (n k : ℕ) (miss : ℕ → Bool) (s : Solvable n k miss) where
   ks-lt {ks} {d} h = held-lt (lost n miss) ks d 16 h (lit< tt) (λ c i. le-trans (those-lt miss n c i) (s .data-max))
 
   -- the missing unit number q is data where q is below the number of lost data units, else parity
-  gone-data : (q : ℕ) → q < length (gone n k miss) → q < length (lost n miss) → getD (gone n k miss) q 0 < n
+  pub gone-data : (q : ℕ) → q < length (gone n k miss) → q < length (lost n miss) → getD (gone n k miss) q 0 < n
   gone-data q h l =
       let u = getD (gone n k miss) q 0 in
       let p = those-rank miss (n + k) q h in

@@ -5,7 +5,6 @@ use mathlib.Core.Bool.{Bool, true, false, not}
 use mathlib.Core.Logic.{⊎-elim}
 use mathlib.Core.List.{List, [], _∷_}
 use Prim.Native.Nat.{ℕ, zero, suc, _+_, _-_, _*_, _<_, _≤_}
-use native.Mathlib.Nat.{le-trans}
 use native.Mathlib.Omega.{arith}
 use lib.Dec.{eqb, leb, lit<}
 use lib.ListN.{length, getD}
@@ -18,13 +17,14 @@ use Rattle.numbers.specs.Refused.{validb}
 use Rattle.field.specs.Byte.{_⊕_, mul, inv, div}
 use Rattle.field.specs.Laws as F
 use Rattle.field.specs.Ring as R
-use Rattle.field.specs.Sum.{sumTo, sum-cong}
-use Rattle.systems.specs.Coef.{coef, coef-row, coef-column}
+use Rattle.field.specs.Sum.{sumTo}
+use Rattle.systems.specs.Coef.{coef, coef-column}
 use Rattle.systems.specs.Cramer.{det, row, sol, sol-solves, sol-unique}
 use Rattle.systems.specs.System.{sys, Rising, regular}
 use Rattle.parity.specs.Group.{parityOf, content, Solvable, rebuilt}
 use Rattle.parity.specs.Content.{content-beyond, content-data}
 use Rattle.parity.specs.Restores.{restores}
+use Rattle.parity.specs.Closing.{parity-plain}
 use Rattle.parity.specs.Lowest.{Rebuilds, rebuilds, rebuilds-once}
 use Rattle.coding.specs.Buffer.{column, encodedOf, rebuiltOf}
 use Rattle.coding.specs.Whole.{same-columns, rebuilt-length, encoded-at, rebuilt-at, gives-back, twice}
@@ -109,10 +109,7 @@ module _ (n k : ℕ) (n16 : n ≤ 16) (k3 : k ≤ 3) where
 
 -- "one parity is the plain exclusive or"
 pub one-parity : (n : ℕ) → n ≤ 16 → (d : ℕ → ℕ) → ((j : ℕ) → j < n → Byte (d j)) → parityOf n d 0 ≡ sumTo n d
-unfolding parityOf
-one-parity n n16 d b =
-    sum-cong n (λ j. mul (coef 0 j) (d j)) d
-    (λ j h. ap (λ (c : ℕ). mul c (d j)) (coef-row j (le-trans h n16)) ∙ F.one-mul (d j) (b j h))
+one-parity = parity-plain
 
 -- "N = 1 gives replication"
 pub replication : (k : ℕ) → k ≤ 3 → (d : ℕ → ℕ) → Byte (d 0) → (u : ℕ) → u < 1 + k → content 1 d u ≡ d 0
