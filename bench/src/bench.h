@@ -7,8 +7,9 @@
 #include <stdint.h>
 
 struct options {
-    bool quick;     /* shorter timings and a smaller pool */
-    bool emulated;  /* the program runs under an emulator: no time means anything */
+    bool quick;       /* shorter timings and a smaller pool */
+    bool emulated;    /* the program runs under an emulator: no time means anything */
+    bool large_pages; /* buffers from 2 MiB on are asked for in pages of 2 MiB */
 };
 extern struct options options;
 
@@ -27,7 +28,7 @@ void time_in_turns(struct timed *t, size_t count);
 /* Megabytes (of 1,000,000 bytes) a second. */
 double rate(double bytes, double seconds);
 
-/* Memory that has been touched, at a whole cache line. Never freed: the program is short. */
+/* Memory that has been touched, at a whole cache line. */
 void *room(size_t bytes);
 
 /* The next of a row of drawn numbers. */

@@ -15,7 +15,7 @@ enum { PARTS = sizeof parts / sizeof *parts };
 
 static int usage(void)
 {
-    fprintf(stderr, "bench [--quick] [--emulated] [codes|pools|maps|catalogue|growth]...\n"
+    fprintf(stderr, "bench [--quick] [--emulated] [--large-pages] [codes|pools|maps|catalogue|growth]...\n"
                     "bench --list\nbench --work NAME REPEATS\n");
     return 2;
 }
@@ -33,6 +33,8 @@ int main(int argc, char **argv)
             options.quick = true;
         else if (strcmp(argv[a], "--emulated") == 0)
             options.emulated = true;
+        else if (strcmp(argv[a], "--large-pages") == 0)
+            options.large_pages = true;
         else
             known = false;
         for (size_t i = 0; i < PARTS; i++)

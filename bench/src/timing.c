@@ -3,7 +3,10 @@
 #include <stdio.h>
 #include <stdlib.h>
 #include <string.h>
+#include <sys/mman.h>
 #include <time.h>
+
+enum { CACHE_LINE = 64, LARGE_PAGE = 2 << 20 };
 
 struct options options;
 
@@ -60,8 +63,12 @@ double rate(double bytes, double seconds)
 
 void *room(size_t bytes)
 {
-    void *m = aligned_alloc(64, (bytes + 63) / 64 * 64);
+    size_t whole = options.large_pages && bytes >= LARGE_PAGE ? LARGE_PAGE : CACHE_LINE;
+    size_t size = (bytes + whole - 1) / whole * whole;
+    void *m = aligned_alloc(whole, size);
     must(m, "memory");
+    if (whole == LARGE_PAGE)
+        must(madvise(m, size, MADV_HUGEPAGE) == 0, "large pages");
     memset(m, 1, bytes);
     return m;
 }
