@@ -1,7 +1,7 @@
 // One group of n data and k parity units with some units missing: the units that are read in their place, and for each missing unit its row
 // of coefficients over those. Worked out once for a set of missing units, whatever the bytes are.
 ghost use mathlib.Core.Path.{_≡_};
-ghost use mathlib.Core.Bool.{true};
+ghost use mathlib.Core.Bool.{true, false};
 ghost use Prim.Native.Nat.{ℕ, _+_, _-_, _<_, _≤_};
 ghost use lib.ListN.{length, getD};
 ghost use Rattle.lists.specs.Pick.{pick, bit};
@@ -10,7 +10,7 @@ ghost use Rattle.lists.specs.Those.{those};
 ghost use Rattle.systems.specs.Coef.{coef as coefficient};
 ghost use Rattle.systems.specs.Matrix.{ent, three-of};
 ghost use Rattle.parity.specs.Matrix.{flag, present, Holds, weightOf, slotCoef, lostCoef, parityCoef, unitCoef, RowsFor};
-ghost use Rattle.parity.specs.Group.{Solvable};
+ghost use Rattle.parity.specs.Group.{Solvable, lost, gone};
 ghost use Rattle.parity.specs.Rows.{slot};
 
 // At most three numbers, in order, with zeros after them.
@@ -218,8 +218,8 @@ fn unit_row(
     [0u8; 16]
 }
 
-// For each missing unit, lowest first, its coefficients over the slots.
-pub fn rows(miss: [bool; 19], n: usize, k: usize) -> [[u8; 16]; 3]
+// The rows of the missing units, from the solved equations.
+fn solved_rows(miss: [bool; 19], n: usize, k: usize) -> [[u8; 16]; 3]
     requires { ⌜ Solvable n k (flag miss) ⌝ }
     ensures { λ x. ⌜ RowsFor n k (flag miss) x ⌝ }
 {
@@ -237,6 +237,33 @@ pub fn rows(miss: [bool; 19], n: usize, k: usize) -> [[u8; 16]; 3]
         unit_row(miss, n, ks, d, lines, total, 1, units[1]),
         unit_row(miss, n, ks, d, lines, total, 2, units[2]),
     ]
+}
+
+// Whether one data unit alone is missing, and parity unit 0 is there.
+fn is_plain(miss: [bool; 19], n: usize, k: usize) -> bool
+    requires { ⌜ Solvable n k (flag miss) ⌝ }
+    ensures { λ r. ⌜ (r ≡ true → (length (gone n k (flag miss)) ≡ 1) × (length (lost n (flag miss)) ≡ 1) × (flag miss n ≡ false)) ⌝ }
+{
+    let all = missing_below(miss, n + k);
+    let data = missing_below(miss, n);
+    if miss[n] {
+        return false;
+    }
+    if all.count != 1 {
+        return false;
+    }
+    data.count == 1
+}
+
+// For each missing unit, lowest first, its coefficients over the slots. One that is a plain sum, as most are after a failure, needs no equations.
+pub fn rows(miss: [bool; 19], n: usize, k: usize) -> [[u8; 16]; 3]
+    requires { ⌜ Solvable n k (flag miss) ⌝ }
+    ensures { λ x. ⌜ RowsFor n k (flag miss) x ⌝ }
+{
+    if is_plain(miss, n, k) {
+        return [[1u8; 16], [0u8; 16], [0u8; 16]];
+    }
+    solved_rows(miss, n, k)
 }
 
 // The unit that slot j reads; where data unit j is missing it is number c of those.

@@ -1,17 +1,17 @@
 -- The equations for the lost data units ks, from the parity units is, one for each: padded with the identity to three.
-use mathlib.Core.Path.{_≡_, subst⁻¹}
+use mathlib.Core.Path.{_≡_, ap, _∙_, subst⁻¹}
 use mathlib.Core.List.{List, [], _∷_}
 use Prim.Native.Nat.{ℕ, _<_, _≤_}
 use native.Mathlib.Nat.{le-trans}
 use native.Mathlib.Omega.{arith}
 use lib.Dec.{ltb, eqb, lit<, lit≤}
 use lib.ListN.{length, getD}
-use Rattle.field.specs.Byte.{_⊕_, mul}
-use Rattle.field.specs.Laws.{mul-one}
+use Rattle.field.specs.Byte.{_⊕_, mul, inv}
+use Rattle.field.specs.Laws.{mul-one, mul-inv}
 use Rattle.field.specs.Ring.{ring}
 use Rattle.lists.specs.Pick.{pick, both}
 use Rattle.systems.specs.Coef.{coef, coef-pos, coef-lt, coef-2, coef-3}
-use Rattle.systems.specs.Cramer.{cof, det}
+use Rattle.systems.specs.Cramer.{cof, det, inverse}
 
 -- entry (r, c) of d equations: the coefficient of the lost unit ks[c] in the parity unit is[r], or the identity's
 unfoldable pub systemEntry : List ℕ → List ℕ → ℕ → ℕ → ℕ → ℕ
@@ -64,3 +64,15 @@ regular is (a ∷ b ∷ c ∷ d ∷ ks) ri rk h =
     let e3 : getD is 2 0 < getD is 3 0 = ri .rises 2 3 (lit< tt) (omega arith) in
     let e4 : getD is 3 0 < 3 = ri .bound 3 (omega arith) in
     omega arith)
+
+-- one equation, with 1 for its coefficient: so is the inverse
+pub inverse-one : (is ks : List ℕ) → length ks ≡ 1 → coef (getD is 0 0) (getD ks 0 0) ≡ 1 → inverse (sys is ks) 0 0 ≡ 1
+unfolding systemEntry inverse det cof
+inverse-one is [] h e = absurd (omega arith)
+inverse-one is (a ∷ []) h e =
+    ap (λ (x : ℕ). mul (mul 1 1 ⊕ mul 0 0) (inv x)) (pad-1 (coef (getD is 0 0) a) (coef-lt (getD is 0 0) a) ∙ e)
+    ∙ ap (λ (x : ℕ). mul x (inv 1)) one ∙ mul-inv 1 (lit< tt) (lit< tt)
+  where
+    one : mul 1 1 ⊕ mul 0 0 ≡ 1
+    one = simp (mul-one 1 (lit< tt), ring)
+inverse-one is (a ∷ b ∷ ks) h e = absurd (omega arith)
