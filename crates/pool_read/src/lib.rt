@@ -24,9 +24,8 @@ fn read_groups(y: Layout, r: Record, image: &[u8], offset: u64, out: &mut [u8])
     let mut from = g * data;
     let mut survey = survey::begin(y, s, g);
     while from < end {
-        let here = survey::next(survey, y, s, r, g);
-        survey = here;
-        let plan = here.plan;
+        survey = survey::next(survey, y, s, r, g);
+        let plan = survey.plan;
         groups::read_group(plan, image, from as usize, offset as usize, out);
         g += 1;
         from += data;

@@ -49,10 +49,9 @@ fn mend_groups(y: Layout, r: Record, image: &mut [u8]) -> u64
     let mut count: u64 = 0;
     let mut g: u64 = 0;
     while g < groups {
-        let here = survey::next(survey, y, s, r, g);
-        survey = here;
-        mend_group(here, y, s, r, g, image, &mut lost);
-        let plan = here.plan;
+        survey = survey::next(survey, y, s, r, g);
+        mend_group(survey, y, s, r, g, image, &mut lost);
+        let plan = survey.plan;
         count += plan.gone as u64;
         g += 1;
     }
