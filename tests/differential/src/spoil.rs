@@ -46,7 +46,8 @@ impl Spoil {
                 Spoil::Before if is_open && lent.is_guarded_before() => *first.sub(1) ^= 1,
                 Spoil::After if is_open && lent.is_guarded_after() => *first.add(bytes) ^= 1,
                 Spoil::Look if !lent.is_guarded_after() => {
-                    first.add(bytes).read_volatile();
+                    // used, since memcheck drops a load whose value is not
+                    std::hint::black_box(first.add(bytes).read_volatile());
                 }
                 Spoil::Store if !is_open => first.write_volatile(first.read()),
                 _ => return false,
