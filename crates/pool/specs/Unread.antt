@@ -130,7 +130,8 @@ module _ (y : Layout) (R R′ : Record) (alike : Alike R R′) where
       (λ z. let le = range-asked y R (length img) offset (length bytes) z .0 .good .mended in
       storing-unread (R .q) (R′ .q) (homes-unread le)
       _ _ (λ i g o c. both (not (lost-unread le i g c)) (writes y offset (length bytes) g o c))
-      _ _ (λ i g o c. content (y .n) (λ d. pick (named y offset (length bytes) g o d) (at bytes (offsetOf y g d o - offset)) (bytes-unread le img i g o d)) c) img)
+      _ _ (λ i g o c. content (y .n)
+      (λ d. pick (named y offset (length bytes) g o d) (at bytes (offsetOf y g d o - offset)) (bytes-unread le img i g o d)) c) img)
 
   pub repair-unread : (img : List ℕ) → repairImage y R img ≡ repairImage y R′ img
   unfolding repairImage

@@ -88,7 +88,8 @@ module _ (y : Layout) (valid : Valid y) (t : ℕ) (target : t < y .p) where
 
   -- with a frame left, the unit there and the cursor of the next frame
   pub step-visits : (r : ℕ) → r < frames y
-      → (numberOf (stepOf y (cursor r)) ≡ 0) × (saysDone (stepOf y (cursor r)) ≡ false) × (unitFound (stepOf y (cursor r)) ≡ unitOf y r t) × (cursorBack (stepOf y (cursor r)) ≡ cursor (r + 1))
+      → (numberOf (stepOf y (cursor r)) ≡ 0) × (saysDone (stepOf y (cursor r)) ≡ false)
+      × (unitFound (stepOf y (cursor r)) ≡ unitOf y r t) × (cursorBack (stepOf y (cursor r)) ≡ cursor (r + 1))
   step-visits r h = (ap numberOf (step-at r h), ap saysDone (step-at r h), ap unitFound (step-at r h), ap cursorBack (step-at r h))
 
   -- "At frame L·T it says done"
@@ -103,7 +104,9 @@ module _ (y : Layout) (valid : Valid y) (t : ℕ) (target : t < y .p) where
   walk-left zero r e = ap (λ (s : Step). onward s (walkOf y zero)) (step-done r (omega arith))
   walk-left (suc n) r e =
       ap (λ (s : Step). onward s (walkOf y (suc n))) (step-at r (omega arith))
-      ∙ ap (λ (l : List Unit). unitOf y r t ∷ l) (walk-left n (r + 1) (omega arith) ∙ tabulate-ext nowhere n (λ i. unitOf y (r + 1 + i) t) (λ i. unitOf y (r + suc i) t) (λ i b. ap (λ (k : ℕ). unitOf y k t) (let q : r + 1 + i ≡ r + suc i = omega arith in q)))
+      ∙ ap (λ (l : List Unit). unitOf y r t ∷ l) (walk-left n (r + 1) (omega arith)
+      ∙ tabulate-ext nowhere n (λ i. unitOf y (r + 1 + i) t) (λ i. unitOf y (r + suc i) t)
+      (λ i b. ap (λ (k : ℕ). unitOf y k t) (let q : r + 1 + i ≡ r + suc i = omega arith in q)))
       ∙ ap (λ (k : ℕ). unitOf y k t ∷ tabulate n (λ i. unitOf y (r + suc i) t)) (sym (add-zero r))
 
   -- the walk from frame 0, with a step to spare behind the last frame: it says done there by itself
