@@ -125,4 +125,4 @@ module _ (y : Layout) where
   -- a byte of a parity unit or a spare is no file offset's
   pub no-offset-there : (x : ℕ) → tracedOf y x .is_data ≡ false → (z : ℕ) → mappedOf y z .refusal ≡ 0 → mappedOf y z .image ≡ x → ⊥
   no-offset-there x d z e at-x =
-      clash true (ap (λ (r : Traced). r .is_data) (sym (mapped-and-back z e) ∙ ap (tracedOf y) at-x) ∙ d) refl
+      clash true refl (ap (λ (r : Traced). r .is_data) (sym (mapped-and-back z e) ∙ ap (tracedOf y) at-x) ∙ d)
