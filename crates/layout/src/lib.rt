@@ -316,11 +316,12 @@ impl Cursor {
         }
         let s = numbers::shape_of(y);
         let unit = place::unit_of(y, s, frame, target);
+        let next = frame + 1;
         Step::At(
             unit,
             Cursor {
                 target,
-                frame: frame + 1,
+                frame: next,
             },
         )
     }
