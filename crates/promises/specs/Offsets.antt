@@ -80,7 +80,6 @@ module _ (y : Layout) where
   -- the file offset of a data unit's byte leads back to that byte of the image
   pub traced-and-back : (x : ℕ) → tracedOf y x .refusal ≡ 0 → tracedOf y x .is_data ≡ true
       → mappedOf y (tracedOf y x .offset) ≡ record { refusal = 0; group = tracedOf y x .group; unit = tracedOf y x .unit; byte = tracedOf y x .byte; image = x }
-  unfolding imageByte
   traced-and-back x e d =
       let a = byte-asked y x (byte-accepted x e) in
       let v = a .0 in
@@ -92,14 +91,16 @@ module _ (y : Layout) where
       let g = unitHere y x .group in
       let c = unitHere y x .unit in
       let o = offsetHere y x in
-      let eg = B.offset-group y v g c o hc ho in
-      let ec = B.offset-unit y v g c o hc ho in
-      let eo = B.offset-byte y v g c o hc ho in
       ap (λ (r : Traced). mappedOf y (r .offset)) there
       ∙ ap (mappedOf y) (pick-true (ltb c (y .n)) (offsetOf y g c o) 0 is)
       ∙ mapped-is (offsetOf y g c o) v (B.offset-lt y v g c o hg hc ho)
-      ∙ (λ i. record { refusal = 0; group = eg i; unit = ec i; byte = eo i; image = spot y (eg i) (ec i) (eo i) })
-      ∙ ap (λ (z : ℕ). record { refusal = 0; group = g; unit = c; byte = o; image = z }) (B.spot-here y v x (a .1))
+      ∙ (λ i. record {
+        refusal = 0;
+        group = B.offset-group y v g c o hc ho i;
+        unit = B.offset-unit y v g c o hc ho i;
+        byte = B.offset-byte y v g c o hc ho i;
+        image = B.image-back y v x (a .1) hc i;
+      })
       ∙ sym (ap (λ (r : Traced). record { refusal = 0; group = r .group; unit = r .unit; byte = r .byte; image = x }) there)
 
   -- every byte of the image, of whatever unit, is that byte of its unit, counted from where the unit begins
