@@ -1,18 +1,11 @@
 -- The answer of a walk's step as numbers, for callers whose language has no enum that holds values: document 01's number, unit and cursor for every
 -- case, and whether it "says done".
 use mathlib.Core.Path.{_≡_, sym, _∙_}
-use mathlib.Core.Bool.{Bool, true, false}
 use Rattle.numbers.specs.declared.Layout.{Layout}
 use Rattle.layout.specs.declared.Cursor.{Cursor}
 use Rattle.layout.specs.declared.Step.{Step}
-use Rattle.layout.specs.declared.Step.the-variants.{At, Done, Refused}
-use Rattle.layout.specs.Walk.{stepOf, numberOf, unitFound, cursorBack}
+use Rattle.layout.specs.Walk.{stepOf, numberOf, saysDone, unitFound, cursorBack}
 use Rattle.abi.specs.declared.Walked.{Walked}
-
-abbrev pub saysDone : Step → Bool
-saysDone (At u w) = false
-saysDone (Done w) = true
-saysDone (Refused n w) = false
 
 abbrev pub walkedOf : Step → Walked
 walkedOf s = record { refusal = numberOf s; done = saysDone s; held = unitFound s; next = cursorBack s }

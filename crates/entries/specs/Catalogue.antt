@@ -31,7 +31,7 @@ after k xs = passing (λ r. keyLt k (keyOf r)) xs
 abbrev pub onward : Key → List Entry → List Entry
 onward k xs = passing (λ r. listable k (keyOf r)) xs
 
--- the opposite of "9: catalogue bad: count above the slice, or keys not strictly rising"
+-- the opposite of 9, "catalogue bad: count above the slice, or keys not strictly rising"
 abbrev pub sound : ℕ → List Entry → Bool
 sound n ys = both (leb n (length ys)) (rising (take n ys))
 
@@ -65,7 +65,7 @@ changedList number zs ys = grant number (over zs ys) ys
 abbrev pub inserted : Entry → List Entry → List Entry
 inserted r xs = before (keyOf r) xs ++ r ∷ after (keyOf r) xs
 
--- the opposite of "10: catalogue full and the key is new"
+-- the opposite of 10, "catalogue full and the key is new"
 abbrev pub hasRoom : Entry → ℕ → List Entry → Bool
 hasRoom r n ys = nonempty (holders (keyOf r) (take n ys)) || ltb n (length ys)
 

@@ -224,7 +224,7 @@ visited-pages (suc t) m k n ys s =
     ∙ ap (λ (l : List ℕ). take m (cobs k (take n ys)) ++ pick (ltb m (length (cobs k (take n ys)))) l []) (visited-pages t m (nextKey k m
     (take n ys)) n ys s)
 
--- "a listing continued at its next number visits every cob of the device exactly once", in file order
+-- a listing continued at its next number visits every cob of the device exactly once, in file order
 pub visits-all : (t m : ℕ) (k : Key) (n : ℕ) (ys : List Entry) → sound n ys ≡ true → 0 < m → length (cobs k (take n ys)) ≤ t
     → visited t m k n ys ≡ cobs k (take n ys)
 visits-all t m k n ys s p l =

@@ -137,7 +137,7 @@ char-of : (y : Layout) (image : List ℕ) (target frame n i : ℕ) → hexRefusa
 unfolding hexLine
 char-of y image target frame n i z h = getD-tabulate n _ i 0 h ∙ grant-yes (hexRefusal y (length image) target frame n) _ 0 z
 
--- "two different (target, frame, unit bytes) give different lines": accepted lines of one layout that are equal tell the same
+-- different targets, frames or unit bytes give different lines: accepted lines of one layout that are equal tell the same
 pub lines-apart : (y : Layout) (image image′ : List ℕ) (target frame target′ frame′ n : ℕ)
     → ((x : ℕ) → getD image x 0 < 256) → ((x : ℕ) → getD image′ x 0 < 256)
     → hexRefusal y (length image) target frame n ≡ 0 → hexRefusal y (length image′) target′ frame′ n ≡ 0

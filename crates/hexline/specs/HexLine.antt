@@ -16,7 +16,7 @@ use Rattle.hexline.specs.Hex.{lineChar}
 unfoldable pub unitByte : Layout → List ℕ → ℕ → ℕ → ℕ → ℕ
 unitByte y image target frame o = getD image (spotOf y (record { frame = frame; target = target }) o) 0
 
--- "1: a layout number outside the bounds; 2: image length wrong; 4: frame, target outside; 5: a line buffer not of its exact length"
+-- 1 "a layout number outside the bounds above", 2 "image length wrong", 4 target or frame "outside", 5 a "line buffer not of its exact length"
 unfoldable pub hexRefusal : Layout → ℕ → ℕ → ℕ → ℕ → ℕ
 hexRefusal y image target frame line =
     refusalBy

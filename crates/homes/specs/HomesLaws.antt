@@ -188,6 +188,21 @@ module _ (target : ℕ → ℕ) (m K : ℕ) (e : ℕ → ℕ) where
     pub homes-apart : (j : ℕ) → j ≤ K → Apart m (m + K) (homes target m K e j)
     homes-apart j le = invariant j le .0
 
+    -- "One always exists for at most K failures": a content whose home is on the target of entry j, the next one listed, finds a free spare
+    room-for : (j : ℕ) → j < K → (c : ℕ) → c < m → target (homes target m K e j c) ≡ e j → any (free target m e (suc j) (homes target m K e j)) K ≡ true
+    room-for j lt c b on = let v = invariant j (omega arith) in room (homes target m K e j) (v .0) j lt (v .1) c b on
+
+    -- and moves there: a spare that was no content's home and lies on none of the targets listed up to and including this one
+    pub spare-for : (j : ℕ) → j < K → (c : ℕ) → c < m → target (homes target m K e j c) ≡ e j
+        → (i : ℕ) × (i < K) × (homes target m K e (suc j) c ≡ m + i) × ((d : ℕ) → d < m → homes target m K e j d ≡ m + i → ⊥) × (listed e (suc j) (target (m + i)) ≡ false)
+    unfolding homes move
+    spare-for j lt c b on =
+        let h = homes target m K e j in
+        let i = lowest (free target m e (suc j) h) K in
+        let r = lowest-is (free target m e (suc j) h) K (room-for j lt c b on) in
+        let f = free-is (suc j) h i (r .1) in
+        (i, r .0, pick-true (eqb (target (h c)) (e j)) _ _ (eq-eqb _ _ on), f .0, f .1)
+
     -- and none lies on a target listed so far
     pub homes-alive : (j : ℕ) → j ≤ K → (c : ℕ) → c < m → listed e j (target (homes target m K e j c)) ≡ false
     unfolding homes move
@@ -195,8 +210,7 @@ module _ (target : ℕ → ℕ) (m K : ℕ) (e : ℕ → ℕ) where
     homes-alive (suc j) le c b =
         ⊎-elim
         (λ (q : eqb (target (homes target m K e j c)) (e j) ≡ true).
-        let v = invariant j (omega arith) in
-        let r = room (homes target m K e j) (v .0) j (omega arith) (v .1) c b (eqb-true _ _ q) in
+        let r = room-for j (omega arith) c b (eqb-true _ _ q) in
         ap (λ (d : ℕ). listed e (suc j) (target d)) (pick-true (eqb (target (homes target m K e j c)) (e j)) _ _ q)
         ∙ free-is (suc j) (homes target m K e j) (lowest (free target m e (suc j) (homes target m K e j)) K) (lowest-is (free target m e (suc j) (homes target m K e j)) K r .1) .1)
         (λ (q : eqb (target (homes target m K e j c)) (e j) ≡ false).

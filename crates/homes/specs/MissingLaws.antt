@@ -3,7 +3,7 @@
 use mathlib.Core.Path.{_≡_, ap, _∙_}
 use mathlib.Core.Bool.{false}
 use mathlib.Core.List.{List}
-use Prim.Native.Nat.{ℕ, _+_, _-_, _≤_, _<_}
+use Prim.Native.Nat.{ℕ, suc, _+_, _-_, _≤_, _<_}
 use native.Mathlib.Omega.{arith}
 use Rattle.lists.specs.Count.{count}
 use Rattle.numbers.specs.declared.Layout.{Layout}
@@ -12,7 +12,7 @@ use Rattle.place.specs.PlaceLaws.{apart}
 use Rattle.homes.specs.declared.Record.{Record}
 use Rattle.homes.specs.Listed.{listed, listed-same}
 use Rattle.homes.specs.Homes.{homes}
-use Rattle.homes.specs.HomesLaws.{Apart, homes-apart, homes-alive, on-listed, homes-stay, homes-same}
+use Rattle.homes.specs.HomesLaws.{Apart, homes-apart, spare-for, homes-alive, on-listed, homes-stay, homes-same}
 use Rattle.homes.specs.Records.{entry, failed, Good}
 use Rattle.homes.specs.Missing.{targetAt, home, missing}
 
@@ -39,6 +39,13 @@ module _ (y : Layout) (v : Valid y) (R : Record) (g : ℕ) where
     pub home-alive : (c : ℕ) → c < contents y → listed (entry R) j (targetAt y g (home y R j g c)) ≡ false
     unfolding home
     home-alive c h = homes-alive (targetAt y g) (contents y) (y .k) (entry R) (units-apart y v g) j le c h
+
+  -- a content on the target of entry j moves to a spare of its group that was no content's home and lies on no target listed by then
+  pub home-moves : (j c : ℕ) → j < y .k → c < contents y → targetAt y g (home y R j g c) ≡ entry R j
+      → (i : ℕ) × (i < y .k) × (home y R (suc j) g c ≡ contents y + i) × ((d : ℕ) → d < contents y → home y R j g d ≡ contents y + i → ⊥)
+      × (listed (entry R) (suc j) (targetAt y g (contents y + i)) ≡ false)
+  unfolding home
+  home-moves j c lt h on = spare-for (targetAt y g) (contents y) (y .k) (entry R) (units-apart y v g) j lt c h on
 
   -- a present content keeps its home under the whole list
   pub home-stays : R .q ≤ R .k → (c : ℕ) → missing y R g c ≡ false → home y R (R .k) g c ≡ home y R (R .q) g c

@@ -1,5 +1,6 @@
 -- "A walk over one target hands its cursor back after each frame, with the group and unit lying there, frames rising. At frame L·T it says
 -- done; a cursor beyond that is 4. Done or refused, the cursor comes back unchanged."
+use mathlib.Core.Bool.{Bool, true, false}
 use mathlib.Core.List.{[], _∷_}
 use Prim.Native.Nat.{ℕ, _+_}
 use lib.Dec.{ltb, leb}
@@ -23,11 +24,16 @@ stepOf y w =
     (pick (ltb (w .frame) (frames y)) (At (unitOf y (w .frame) (w .target)) (record { target = w .target; frame = w .frame + 1 })) (Done w))
     (Refused (walkRefusal y w) w)
 
--- document 01's number, unit and cursor for every case of the answer
+-- document 01's number, unit and cursor for every case of the answer, and whether it "says done"
 abbrev pub numberOf : Step → ℕ
 numberOf (At u w) = 0
 numberOf (Done w) = 0
 numberOf (Refused n w) = n
+
+abbrev pub saysDone : Step → Bool
+saysDone (At u w) = false
+saysDone (Done w) = true
+saysDone (Refused n w) = false
 
 abbrev pub unitFound : Step → Unit
 unitFound (At u w) = u

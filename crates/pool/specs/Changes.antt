@@ -1,13 +1,11 @@
--- What a write and a repair change, on any image and for any input: only what they store, and never a byte of a failed target.
+-- What a write and a repair change, on any image and for any input: only what they store; and a repair never a byte of a failed target.
 use mathlib.Core.Path.{_≡_, sym, ap, _∙_, subst}
 use mathlib.Core.Logic.{_⊎_, inl, ⊎-elim}
-use mathlib.Core.Bool.{Bool, true, not}
+use mathlib.Core.Bool.{Bool, true}
 use mathlib.Core.List.{List}
 use Prim.Native.Nat.{ℕ, _≤_, _<_}
-use native.Mathlib.Omega.{arith}
-use borrow.Author.Tests.{not-true}
 use lib.ListN.{length}
-use Rattle.lists.specs.Pick.{both-true, clash, equal-or-not}
+use Rattle.lists.specs.Pick.{clash, equal-or-not}
 use Rattle.lists.specs.Tabulate.{at}
 use Rattle.numbers.specs.declared.Layout.{Layout}
 use Rattle.numbers.specs.Layouts.{Valid}
@@ -15,7 +13,7 @@ use Rattle.place.specs.Bytes.{targetHere}
 use Rattle.place.specs.ByteLaws.{target-there}
 use Rattle.homes.specs.declared.Record.{Record}
 use Rattle.homes.specs.Records.{failed}
-use Rattle.homes.specs.Missing.{targetAt, home, missing}
+use Rattle.homes.specs.Missing.{targetAt, home}
 use Rattle.homes.specs.MissingLaws.{home-lt, home-alive}
 use Rattle.pool.specs.Refusals.{rangeRefusal, repairRefusal}
 use Rattle.pool.specs.Storing.{Stores}
@@ -52,21 +50,6 @@ module _ (y : Layout) (R : Record) (img : List ℕ) where
         (storing-changes y (s .valid) R (R .q) _ _ img (s .len-is) x h))
         (λ (z : rangeRefusal y R (length img) offset (length bytes) ≡ 0 → ⊥). inl (ap (λ (i : List ℕ). at i x) (write-refused y R img offset bytes z)))
 
-    -- a write changes no byte of a failed target
-    pub write-spares-failed : (x : ℕ) → x < length img → failed R (targetHere y x) ≡ true → at (writeImage y R img offset bytes) x ≡ at img x
-    unfolding missing
-    write-spares-failed x h f =
-        equal-or-not (rangeRefusal y R (length img) offset (length bytes)) 0
-        (λ (z : rangeRefusal y R (length img) offset (length bytes) ≡ 0).
-        let s = range-asked y R (length img) offset (length bytes) z .0 in
-        let a = s .good .few in
-        let b = s .good .mended in
-        ⊎-elim (λ e. e)
-        (λ w. clash (failed R (targetHere y x)) f
-        (ap (failed R) (stores-target y R (R .q) _ x (s .valid) (omega arith) w) ∙ not-true _ (both-true (not (missing y R (w .g) (w .c))) _ (w .is-on) .0)))
-        (write-changes x h))
-        (λ (z : rangeRefusal y R (length img) offset (length bytes) ≡ 0 → ⊥). ap (λ (i : List ℕ). at i x) (write-refused y R img offset bytes z))
-
   pub repair-changes : (x : ℕ) → x < length img → (at (repairImage y R img) x ≡ at img x) ⊎ Mended y R x
   repair-changes x h =
       equal-or-not (repairRefusal y R (length img)) 0
@@ -76,7 +59,7 @@ module _ (y : Layout) (R : Record) (img : List ℕ) where
       (storing-changes y (s .valid) R (R .k) _ _ img (s .len-is) x h))
       (λ (z : repairRefusal y R (length img) ≡ 0 → ⊥). inl (ap (λ (i : List ℕ). at i x) (repair-refused y R img z)))
 
-  -- nor does a repair
+  -- a repair changes no byte of a failed target
   pub repair-spares-failed : (x : ℕ) → x < length img → failed R (targetHere y x) ≡ true → at (repairImage y R img) x ≡ at img x
   repair-spares-failed x h f =
       equal-or-not (repairRefusal y R (length img)) 0

@@ -111,7 +111,7 @@ read-right y R img file k offset size z =
     grant-yes (rangeRefusal y R (length img) offset size) _ _ z
     ∙ tabulate-ext 0 size _ _ (λ i h. file-shown y R img file (a .0 .valid) (a .0 .good) k (offset + i) (omega arith))
 
--- ---- on any image of bytes a content is what a rebuilding "from the N lowest present units" promises
+-- ---- on any image of bytes a content is what a rebuilding from "the N lowest present units" promises
 
 pub content-rebuilds : (y : Layout) (R : Record) (img : List ℕ) → Valid y → Good y R → (g o : ℕ) → ((c : ℕ) → c < contents y → stored y R img g o c < 256)
     → Rebuilds (y .n) (y .k) (missing y R g) (stored y R img g o) (contentByte y R img g o)

@@ -22,3 +22,4 @@ pub mod Blind
 pub mod Elsewhere
 pub mod ElsewhereKept
 pub mod Cuts
+pub mod Unread

@@ -5,11 +5,12 @@ use mathlib.Core.List.{List, []}
 use Prim.Native.Nat.{ℕ, zero, suc, _+_, _-_, _≤_, _<_}
 use native.Mathlib.Omega.{arith}
 use lib.ListN.{length, getD, take, drop}
-use Rattle.lists.specs.Pick.{pick, pick-true, pick-false}
-use Rattle.lists.specs.Refusal.{grant}
+use Rattle.lists.specs.Pick.{pick, pick-true, pick-false, equal-or-not}
+use Rattle.lists.specs.Refusal.{grant, grant-no}
 use Rattle.lists.specs.Tabulate.{tabulate, zeros, length-tabulate, tabulated, tabulate-ext}
 use Rattle.numbers.specs.declared.Layout.{Layout}
 use Rattle.homes.specs.declared.Record.{Record}
+use Rattle.place.specs.Bytes.{spot}
 use Rattle.place.specs.ByteLaws.{spot-in}
 use Rattle.homes.specs.Missing.{home, missing}
 use Rattle.homes.specs.MissingLaws.{home-lt}
@@ -18,6 +19,7 @@ use Rattle.pool.specs.Refusals.{lookRefusal}
 use Rattle.pool.specs.Looking.{lookShown}
 use Rattle.pool.specs.Calls.{Shows}
 use Rattle.pool.specs.Asked.{LookAsked, look-asked}
+use Rattle.pool.specs.Unread.{Alike, look-unread, homes-unread, lost-unread}
 use Rattle.plan.specs.declared.Plan.{Plan}
 use Rattle.plan.specs.Plans.{atOf, missOf, Fits, held}
 use Rattle.runs.specs.Run.{runSet, length-runSet, runSet-in}
@@ -40,9 +42,6 @@ module _ (y : Layout) (R : Record) (len room g c : ℕ) (a : LookAsked y R len r
 
     pub content-in : c < P .n + P .k
     content-in = omega (arith, a .content-lt, s .n-is, s .k-is)
-
-    pub unit-in : atOf P c + P .u ≤ len
-    unit-in = plan-fits .inside c content-in
 
 module _ (y : Layout) (R : Record) (img : List ℕ) (room g c : ℕ) (a : LookAsked y R (length img) room g c) (P : Plan) (s : Surveyed y R (R .q) g P) where
   -- a missing content's scratch is the rebuilt unit
@@ -112,6 +111,26 @@ module _ (y : Layout) (R : Record) (len room g c : ℕ) where
       numbered : (n : ℕ) → shownBy y R g c n .refusal ≡ n
       numbered zero = refl
       numbered (suc n) = refl
+
+-- it depends on the record as the calls of the pool do: entries from k on are never read
+pub locate-unread : (y : Layout) (R R′ : Record) → Alike R R′ → (len room g c : ℕ) → shownAt y R len room g c ≡ shownAt y R′ len room g c
+unfolding shownAt
+locate-unread y R R′ alike len room g c =
+    equal-or-not (lookRefusal y R len room g c) 0
+    (λ (z : lookRefusal y R len room g c ≡ 0).
+    let le = look-asked y R len room g c z .sound .good .mended in
+    ap (shownBy y R g c) z
+    ∙ (λ i. record {
+      refusal = 0;
+      missing = lost-unread y R R′ alike le i g c;
+      begins = pick (lost-unread y R R′ alike le i g c) 0 (spot y g (homes-unread y R R′ alike le i g c) 0);
+      length = y .u;
+    })
+    ∙ ap (shownBy y R′ g c) (sym z ∙ look-unread y R R′ alike len room g c))
+    (λ (never : lookRefusal y R len room g c ≡ 0 → ⊥).
+    grant-no (lookRefusal y R len room g c) _ _ never
+    ∙ ap (λ (n : ℕ). record { refusal = n; missing = false; begins = 0; length = 0 }) (look-unread y R R′ alike len room g c)
+    ∙ sym (grant-no (lookRefusal y R′ len room g c) _ _ (λ (z : lookRefusal y R′ len room g c ≡ 0). never (look-unread y R R′ alike len room g c ∙ z))))
 
 module _ (y : Layout) (R : Record) (img scratch : List ℕ) (g c : ℕ) where
   -- and is what document 01 shows

@@ -1,6 +1,6 @@
 -- The catalogue: a legal one stays legal, what lookups find after changes, which slots change, and that a continued listing is whole; of
 -- each call, that it answers the lowest refusal number that applies, and that any two outcomes its promise allows are the same.
-use mathlib.Core.Path.{_≡_, refl}
+use mathlib.Core.Path.{_≡_, refl, ap, _∙_}
 use mathlib.Core.Bool.{true, false}
 use mathlib.Core.List.{List}
 use Prim.Native.Nat.{ℕ, _≤_, _<_}
@@ -8,7 +8,8 @@ use native.Mathlib.Omega.{arith}
 use lib.Dec.{eqb}
 use lib.ListN.{length, getD, take}
 use Rattle.lists.specs.Passing.{passing}
-use Rattle.lists.specs.Refusal.{LowestThatApplies, refusal-lowest}
+use Rattle.lists.specs.Refusal.{LowestThatApplies, refusal-lowest, grant-no}
+use Rattle.lists.specs.Tabulate.{zeros}
 use Rattle.entries.specs.declared.Entry.{Entry}
 use Rattle.entries.specs.declared.Key.{Key}
 use Rattle.entries.specs.declared.Found.{Found}
@@ -65,11 +66,34 @@ module _ (r : Entry) (n : ℕ) (ys : List Entry) where
   delete-frees = S.delete-frees r n ys
 
   -- after a refusal, "catalogue with its count .. are unchanged"
-  pub insert-refused : (insertNumber r n ys ≡ 0 → ⊥) → (insertOf r n ys .count ≡ n) × (insertedList r n ys ≡ ys)
-  insert-refused = S.insert-refused r n ys
+  pub insert-refused : (c : Changed) (zs : List Entry) → Insert r n ys c zs → (c .refusal ≡ 0 → ⊥) → (c .count ≡ n) × (zs ≡ ys)
+  insert-refused c zs p never =
+      let same = S.insert-refused r n ys (λ z. never (ap (λ (x : Changed). x .refusal) (p .answer) ∙ z)) in
+      (ap (λ (x : Changed). x .count) (p .answer) ∙ same .0, p .slots ∙ same .1)
 
-  pub delete-refused : (deleteNumber r n ys ≡ 0 → ⊥) → (deleteOf r n ys .count ≡ n) × (deletedList r n ys ≡ ys)
-  delete-refused = S.delete-refused r n ys
+  pub delete-refused : (c : Changed) (zs : List Entry) → Delete r n ys c zs → (c .refusal ≡ 0 → ⊥) → (c .count ≡ n) × (zs ≡ ys)
+  delete-refused c zs p never =
+      let same = S.delete-refused r n ys (λ z. never (ap (λ (x : Changed). x .refusal) (p .answer) ∙ z)) in
+      (ap (λ (x : Changed). x .count) (p .answer) ∙ same .0, p .slots ∙ same .1)
+
+-- "A refused .. listing .. fills its output with zeros", and "returned numbers are 0 where no rule gives them another value"
+module _ (n : ℕ) (ys : List Entry) (k : Key) where
+  pub lookup-refused : (f : Found) → Lookup k n ys f → (f .refusal ≡ 0 → ⊥) → f .cob ≡ 0
+  lookup-refused f p never =
+      ap (λ (x : Found). x .cob) (p .answer)
+      ∙ grant-no (lookupOf k n ys .refusal) _ 0 (λ (z : _ ≡ 0). never (ap (λ (x : Found). x .refusal) (p .answer) ∙ z))
+
+  pub listing-refused : (old : List ℕ) (page : Page) (new : List ℕ) → Listing k n ys old page new → (page .refusal ≡ 0 → ⊥)
+      → (new ≡ zeros (length old)) × (page .count ≡ 0) × (page .more ≡ false) × (page .next ≡ 0)
+  listing-refused old page new p never = (
+    p .output ∙ grant-no (listingOf k n ys old .refusal) _ (zeros (length old)) no,
+    ap (λ (x : Page). x .count) (p .answer) ∙ grant-no (listingOf k n ys old .refusal) _ 0 no,
+    ap (λ (x : Page). x .more) (p .answer) ∙ grant-no (listingOf k n ys old .refusal) _ false no,
+    ap (λ (x : Page). x .next) (p .answer) ∙ grant-no (listingOf k n ys old .refusal) _ 0 no,
+  )
+    where
+      no : listingOf k n ys old .refusal ≡ 0 → ⊥
+      no z = never (ap (λ (x : Page). x .refusal) (p .answer) ∙ z)
 
 -- ---- listings: what t of them in a row write into m places each, continued at the next file number, is every cob once, in file order
 
@@ -112,7 +136,7 @@ module _ (n : ℕ) (ys : List Entry) where
       → (p ≡ p′) × (new ≡ new′)
   listing-tight k old p p′ new new′ a b = (same (a .answer) (b .answer), same (a .output) (b .output))
 
-  -- the same calls on eight slots by value: lookup and listing promise what is above
+  -- the same calls on eight slots by value: lookup and listing promise what is above; insert and delete answer slots, number and count in one struct
   pub shelf-insert-tight : (r : Entry) (b b′ : Shelf) → b ≡ shelfOf (insertedList r n ys) (insertOf r n ys)
       → b′ ≡ shelfOf (insertedList r n ys) (insertOf r n ys) → b ≡ b′
   shelf-insert-tight r b b′ = same
@@ -120,3 +144,14 @@ module _ (n : ℕ) (ys : List Entry) where
   pub shelf-delete-tight : (r : Entry) (b b′ : Shelf) → b ≡ shelfOf (deletedList r n ys) (deleteOf r n ys)
       → b′ ≡ shelfOf (deletedList r n ys) (deleteOf r n ys) → b ≡ b′
   shelf-delete-tight r b b′ = same
+
+  -- which are those that the calls on a slice promise, so that their laws above hold of it
+  pub shelf-insert-promises : (r : Entry) (b : Shelf) → b ≡ shelfOf (insertedList r n ys) (insertOf r n ys)
+      → Insert r n ys (record { refusal = b .refusal; count = b .count }) (b .slots)
+  shelf-insert-promises r b e =
+      record { answer = ap (λ (x : Shelf). record { refusal = x .refusal; count = x .count }) e; slots = ap (λ (x : Shelf). x .slots) e }
+
+  pub shelf-delete-promises : (r : Entry) (b : Shelf) → b ≡ shelfOf (deletedList r n ys) (deleteOf r n ys)
+      → Delete r n ys (record { refusal = b .refusal; count = b .count }) (b .slots)
+  shelf-delete-promises r b e =
+      record { answer = ap (λ (x : Shelf). record { refusal = x .refusal; count = x .count }) e; slots = ap (λ (x : Shelf). x .slots) e }

@@ -1,6 +1,7 @@
 -- The hex line: lines tell target, frame and bytes apart; a refused one is all zeros; the call answers the lowest refusal number that
 -- applies; and any two outcomes its promise allows are the same.
-use mathlib.Core.Path.{_≡_, refl, sym}
+use mathlib.Core.Path.{_≡_, refl, sym, _∙_, subst⁻¹}
+use mathlib.Core.Bool.{Bool}
 use mathlib.Core.List.{List, [], _∷_}
 use Prim.Native.Nat.{ℕ, _+_, _*_, _<_}
 use native.Mathlib.Omega.{arith}
@@ -28,19 +29,19 @@ module _ (y : Layout) (image : List ℕ) (target frame : ℕ) where
   pub hex-line-exact : (n : ℕ) → hexRefusal y (length image) target frame n ≡ 0 → n ≡ 11 + 2 * y .u
   hex-line-exact n e = C.accepted-line y (length image) target frame n e .exact
 
-  -- a refused line is zeros over the whole length of its buffer
-  pub hex-line-refused : (n : ℕ) → (hexRefusal y (length image) target frame n ≡ 0 → ⊥) → hexLine y image target frame n ≡ zeros n
-  hex-line-refused n f = sym (C.refused-line y image target frame n f)
+  module _ (old : List ℕ) (r : ℕ) (new : List ℕ) (p : HexLine y image target frame old r new) where
+    -- a refused line is zeros over the whole length of its buffer
+    pub hex-line-refused : (r ≡ 0 → ⊥) → new ≡ zeros (length old)
+    hex-line-refused never = p .line ∙ sym (C.refused-line y image target frame (length old) (λ z. never (p .answer ∙ z)))
 
-  pub hex-line-lowest : (n : ℕ)
-      → LowestThatApplies
-      ((validb y, 1) ∷ (eqb (length image) (imageLength y), 2) ∷ (ltb target (y .p), 4) ∷ (ltb frame (frames y), 4) ∷ (eqb n (11 + 2 * y .u), 5) ∷ [])
-      (hexRefusal y (length image) target frame n)
-  unfolding hexRefusal
-  hex-line-lowest n =
-      refusal-lowest 1
-      ((validb y, 1) ∷ (eqb (length image) (imageLength y), 2) ∷ (ltb target (y .p), 4) ∷ (ltb frame (frames y), 4) ∷ (eqb n (11 + 2 * y .u), 5) ∷ [])
-      (omega arith) refl
+    -- the number that the call answers is the lowest that applies
+    abbrev tests : List (Bool × ℕ)
+    tests =
+        (validb y, 1) ∷ (eqb (length image) (imageLength y), 2) ∷ (ltb target (y .p), 4) ∷ (ltb frame (frames y), 4) ∷ (eqb (length old) (11 + 2 * y .u), 5) ∷ []
+
+    pub hex-line-lowest : LowestThatApplies tests r
+    unfolding hexRefusal
+    hex-line-lowest = subst⁻¹ (LowestThatApplies tests) (p .answer) (refusal-lowest 1 tests (omega arith) refl)
 
   pub hex-line-tight : (old : List ℕ) (r r′ : ℕ) (new new′ : List ℕ) → HexLine y image target frame old r new
       → HexLine y image target frame old r′ new′

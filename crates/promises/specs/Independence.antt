@@ -23,6 +23,10 @@ use Rattle.pool.specs.Changes.{Mended, repair-changes, repair-spares-failed}
 use Rattle.pool.specs.Blind.{read-blind, prepare-blind, show-blind}
 use Rattle.pool.specs.Elsewhere.{unseen, AgreeElsewhere, agree-of}
 use Rattle.pool.specs.ElsewhereKept.{write-elsewhere, fail-elsewhere, repair-elsewhere, write-spares-unseen}
+use Rattle.pool.specs.Unread as U
+use Rattle.pool.specs.Unread.{Alike}
+use Rattle.pool_look.specs.Shown.{shownAt}
+use Rattle.pool_look.specs.Looks as L
 use Rattle.promises.specs.Runs.{Event, start, run, reink}
 use Rattle.promises.specs.RunLaws.{Twins, started, twins, twins-start}
 
@@ -88,6 +92,49 @@ module _ (y : Layout) (R : Record) (img : List ℕ) (x : ℕ) (in-image : x < le
 
   pub repair-leaves-others : (Mended y R x → ⊥) → at (repairImage y R img) x ≡ at img x
   repair-leaves-others no-home = ⊎-elim (λ e. e) (λ w. absurd (no-home w)) (repair-changes y R img x in-image)
+
+-- ---- "entries from k on are never read": two records that agree on k, q and the first k entries give the same answers and images, and records that
+-- agree likewise
+
+module _ (y : Layout) (R R′ : Record) (alike : Alike R R′) (img : List ℕ) where
+  pub read-unread : (offset size : ℕ)
+      → (rangeRefusal y R (length img) offset size ≡ rangeRefusal y R′ (length img) offset size) × (readOut y R img offset size ≡ readOut y R′ img offset size)
+  read-unread offset size = (U.range-unread y R R′ alike (length img) offset size, U.read-unread y R R′ alike img offset size)
+
+  pub write-unread : (offset : ℕ) (bytes : List ℕ)
+      → (rangeRefusal y R (length img) offset (length bytes) ≡ rangeRefusal y R′ (length img) offset (length bytes))
+      × (writeImage y R img offset bytes ≡ writeImage y R′ img offset bytes)
+  write-unread offset bytes = (U.range-unread y R R′ alike (length img) offset (length bytes), U.write-unread y R R′ alike img offset bytes)
+
+  -- a record has room for three entries
+  pub fail-unread : length (R .failed) ≡ 3 → length (R′ .failed) ≡ 3 → (target : ℕ)
+      → (failRefusal y R (length img) target ≡ failRefusal y R′ (length img) target) × Alike (failRecord y R (length img) target) (failRecord y R′ (length img) target)
+  fail-unread three three′ target = (U.fail-number-unread y R R′ alike (length img) target, U.fail-unread y R R′ alike three three′ (length img) target)
+
+  pub repair-unread :
+      (repairRefusal y R (length img) ≡ repairRefusal y R′ (length img))
+      × (repairCount y R (length img) ≡ repairCount y R′ (length img))
+      × Alike (repairRecord y R (length img)) (repairRecord y R′ (length img))
+      × (repairImage y R img ≡ repairImage y R′ img)
+  repair-unread = (
+    U.repair-number-unread y R R′ alike (length img),
+    U.count-unread y R R′ alike (length img),
+    U.mended-unread y R R′ alike (length img),
+    U.repair-unread y R R′ alike img,
+  )
+
+  pub prepare-unread : (room group content : ℕ)
+      → (lookRefusal y R (length img) room group content ≡ lookRefusal y R′ (length img) room group content)
+      × (lookScratch y R img room group content ≡ lookScratch y R′ img room group content)
+  prepare-unread room group content = (U.look-unread y R R′ alike (length img) room group content, U.prepare-unread y R R′ alike img room group content)
+
+  pub show-unread : (scratch : List ℕ) (group content : ℕ)
+      → (lookRefusal y R (length img) (length scratch) group content ≡ lookRefusal y R′ (length img) (length scratch) group content)
+      × (lookShown y R img scratch group content ≡ lookShown y R′ img scratch group content)
+  show-unread scratch group content = (U.look-unread y R R′ alike (length img) (length scratch) group content, U.show-unread y R R′ alike img scratch group content)
+
+  pub locate-unread : (room group content : ℕ) → shownAt y R (length img) room group content ≡ shownAt y R′ (length img) room group content
+  locate-unread = L.locate-unread y R R′ alike (length img)
 
 -- ---- runs: no record, no read and no look depends on what others scribble
 

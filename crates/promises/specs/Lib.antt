@@ -1,9 +1,12 @@
 pub mod Placement
+pub mod Offsets
 pub mod Parity
 pub mod Walks
 pub mod Runs
 pub mod RunLaws
 pub mod Demand3
+pub mod Calls
+pub mod Homes
 pub mod Independence
 pub mod Refusals
 pub mod Tight

@@ -1,6 +1,6 @@
--- Demand 2, parity: "any N of a group's N+K data and parity units give the others back". The byte field, the code, and what the calls encode and
--- rebuild promise, for every N up to 16 and every K up to 3.
-use mathlib.Core.Path.{_≡_, refl, sym, ap, _∙_}
+-- Demand 2, parity: "of a group encoded by those rules any N of its N+K content units give back the rest". The byte field, the code, and what the calls
+-- encode and rebuild promise, for every N up to 16 and every K up to 3.
+use mathlib.Core.Path.{_≡_, refl, sym, ap, _∙_, subst⁻¹}
 use mathlib.Core.Bool.{Bool, true, false, not}
 use mathlib.Core.Logic.{⊎-elim}
 use mathlib.Core.List.{List, [], _∷_}
@@ -40,6 +40,7 @@ Byte x = x < 256
 pub record Field : Type 0 where
   pub sum-comm : (a b : ℕ) → a ⊕ b ≡ b ⊕ a
   pub sum-assoc : (a b c : ℕ) → (a ⊕ b) ⊕ c ≡ a ⊕ (b ⊕ c)
+  pub sum-zero : (a : ℕ) → a ⊕ 0 ≡ a
   pub sum-self : (a : ℕ) → a ⊕ a ≡ 0
   pub mul-comm : (a b : ℕ) → mul a b ≡ mul b a
   pub mul-assoc : (a b c : ℕ) → mul (mul a b) c ≡ mul a (mul b c)
@@ -60,6 +61,7 @@ field-laws =
     record {
       sum-comm = R.⊕-comm;
       sum-assoc = R.⊕-assoc;
+      sum-zero = R.⊕-zero;
       sum-self = R.⊕-self;
       mul-comm = F.mul-comm;
       mul-assoc = F.mul-assoc;
@@ -122,18 +124,22 @@ replication k k3 d b (suc i) h = content-beyond 1 d (suc i) (omega arith) ∙ co
 -- ---- encode
 
 module _ (y : Layout) where
-  pub encode-lowest : (len : ℕ) → LowestThatApplies ((validb y, 1) ∷ (eqb len (contents y * y .u), 5) ∷ []) (encodeRefusal y len)
+  -- the number that it answers is the lowest that applies
+  pub encode-lowest : (before : List ℕ) (r : ℕ) (after : List ℕ) → Encodes y before r after
+      → LowestThatApplies ((validb y, 1) ∷ (eqb (length before) (contents y * y .u), 5) ∷ []) r
   unfolding encodeRefusal
-  encode-lowest len = refusal-lowest 1 ((validb y, 1) ∷ (eqb len (contents y * y .u), 5) ∷ []) (omega arith) refl
+  encode-lowest before r after p =
+      subst⁻¹ (LowestThatApplies ((validb y, 1) ∷ (eqb (length before) (contents y * y .u), 5) ∷ [])) (p .answers)
+      (refusal-lowest 1 ((validb y, 1) ∷ (eqb (length before) (contents y * y .u), 5) ∷ []) (omega arith) refl)
 
   -- any two outcomes that the promise of encode allows are the same
   pub encode-tight : (before : List ℕ) (r r′ : ℕ) (after after′ : List ℕ) → Encodes y before r after → Encodes y before r′ after′ → (r ≡ r′) × (after ≡ after′)
   encode-tight before r r′ after after′ a b = (a .answers ∙ sym (b .answers), a .bytes ∙ sym (b .bytes))
 
   -- a refused encoding changes no byte
-  pub encode-refused : (buf : List ℕ) → (encodeRefusal y (length buf) ≡ 0 → ⊥) → encoded y buf ≡ buf
+  pub encode-refused : (before : List ℕ) (r : ℕ) (after : List ℕ) → Encodes y before r after → (r ≡ 0 → ⊥) → after ≡ before
   unfolding encoded
-  encode-refused buf f = grant-no (encodeRefusal y (length buf)) _ buf f
+  encode-refused before r after p never = p .bytes ∙ grant-no (encodeRefusal y (length before)) _ before (λ (z : _ ≡ 0). never (p .answers ∙ z))
 
   module _ (buf : List ℕ) (ok : encodeRefusal y (length buf) ≡ 0) where
     v : Valid y
@@ -152,24 +158,27 @@ module _ (y : Layout) where
 -- ---- rebuild
 
 module _ (y : Layout) (missing : List ℕ) where
-  pub rebuild-lowest : (len : ℕ)
-      → LowestThatApplies ((validb y, 1) ∷ (eachBelow (contents y) missing, 4) ∷ (eqb len (contents y * y .u), 5) ∷ (leb (count (named missing) (contents y)) (y .k), 8) ∷ [])
-      (rebuildRefusal y missing len)
+  abbrev tests : ℕ → List (Bool × ℕ)
+  tests len = (validb y, 1) ∷ (eachBelow (contents y) missing, 4) ∷ (eqb len (contents y * y .u), 5) ∷ (leb (count (named missing) (contents y)) (y .k), 8) ∷ []
+
+  -- the number that it answers is the lowest that applies
+  pub rebuild-lowest : (before : List ℕ) (r : ℕ) (after : List ℕ) → Rebuilding y missing before r after → LowestThatApplies (tests (length before)) r
   unfolding rebuildRefusal
-  rebuild-lowest len =
-      refusal-lowest 1 (
-      (validb y, 1) ∷ (eachBelow (contents y) missing, 4) ∷ (eqb len (contents y * y .u), 5) ∷ (leb (count (named missing) (contents y)) (y .k), 8) ∷ []
-      ) (omega arith) refl
+  rebuild-lowest before r after p =
+      subst⁻¹ (LowestThatApplies (tests (length before))) (p .answers) (refusal-lowest 1 (tests (length before)) (omega arith) refl)
 
   -- any two outcomes that the promise of rebuild allows are the same
   pub rebuild-tight : (before : List ℕ) (r r′ : ℕ) (after after′ : List ℕ) → Rebuilding y missing before r after → Rebuilding y missing before r′ after′
       → (r ≡ r′) × (after ≡ after′)
   rebuild-tight before r r′ after after′ a b = (a .answers ∙ sym (b .answers), a .bytes ∙ sym (b .bytes))
 
-  -- a refused rebuild changes no byte
-  pub rebuild-refused : (buf : List ℕ) → (rebuildRefusal y missing (length buf) ≡ 0 → ⊥) → rebuiltGroup y missing buf ≡ buf
+  kept : (buf : List ℕ) → (rebuildRefusal y missing (length buf) ≡ 0 → ⊥) → rebuiltGroup y missing buf ≡ buf
   unfolding rebuiltGroup
-  rebuild-refused buf f = grant-no (rebuildRefusal y missing (length buf)) _ buf f
+  kept buf f = grant-no (rebuildRefusal y missing (length buf)) _ buf f
+
+  -- a refused rebuild changes no byte
+  pub rebuild-refused : (before : List ℕ) (r : ℕ) (after : List ℕ) → Rebuilding y missing before r after → (r ≡ 0 → ⊥) → after ≡ before
+  rebuild-refused before r after p never = p .bytes ∙ kept before (λ z. never (p .answers ∙ z))
 
   granted : (buf : List ℕ) → rebuildRefusal y missing (length buf) ≡ 0 → rebuiltGroup y missing buf ≡ rebuiltOf (y .n) (y .k) (y .u) (named missing) buf
   unfolding rebuiltGroup
@@ -228,7 +237,7 @@ module _ (y : Layout) (missing : List ℕ) where
   rebuild-twice buf = below-or-not 0 (rebuildRefusal y missing (length buf)) refused accepted
     where
       refused : 0 < rebuildRefusal y missing (length buf) → rebuiltGroup y missing (rebuiltGroup y missing buf) ≡ rebuiltGroup y missing buf
-      refused h = ap (rebuiltGroup y missing) (rebuild-refused buf (λ (z : rebuildRefusal y missing (length buf) ≡ 0). absurd (omega arith)))
+      refused h = ap (rebuiltGroup y missing) (kept buf (λ (z : rebuildRefusal y missing (length buf) ≡ 0). absurd (omega arith)))
 
       accepted : rebuildRefusal y missing (length buf) ≤ 0 → rebuiltGroup y missing (rebuiltGroup y missing buf) ≡ rebuiltGroup y missing buf
       accepted h =

@@ -5,6 +5,7 @@ use Prim.Native.Nat.{ℕ, _+_, _*_, _^_, _≤_, _<_, _∣_}
 use native.Mathlib.Omega.{arith}
 use Rattle.lists.specs.Tabulate.{at}
 use Rattle.lists.specs.Bijection.{Bijection}
+use Rattle.lists.specs.Count.{sum}
 use Rattle.numbers.specs.declared.Layout.{Layout}
 use Rattle.numbers.specs.Layouts.{Valid, width, block, rows, groups, frames, allGroups, capacity, imageLength}
 use Rattle.numbers.specs.Shapes.{width-groups, targets-rows, block-multiple, block-least, layout-products}
@@ -13,7 +14,7 @@ use Rattle.tile.specs.Laws.{permutation-own}
 use Rattle.place.specs.Units.{Widths, Tiled, frameOf, targetOf, groupAt, unitAt}
 use Rattle.place.specs.UnitLaws as U
 use Rattle.place.specs.Load as L
-use Rattle.place.specs.Places.{widthsOf, targetsOf, placeOf, unitOf}
+use Rattle.place.specs.Places.{widthsOf, targetsOf, columnsOf, placeOf, unitOf}
 use Rattle.place.specs.PlaceLaws as P
 use Rattle.place.specs.Bytes.{groupOf, unitIn, byteIn, offsetOf, spot, imageByte, unitHere, offsetHere}
 use Rattle.place.specs.ByteLaws as B
@@ -33,7 +34,11 @@ module _ (y : Widths) (tiled : Tiled y) (π ρ : ℕ → ℕ → ℕ) (undo : (t
   pub any-apart : (g u u′ : ℕ) → u < y .w → u′ < y .w → targetOf y π g u ≡ targetOf y π g u′ → u ≡ u′
   any-apart = U.targets-apart y tiled π ρ undo
 
-  -- k whole tiles give every target exactly L units each; over the first n groups two targets' counts differ by at most L
+  -- "a whole tile gives every target exactly L units": tile k itself, whose groups are those from C·k on
+  pub any-whole-tile : (t : ℕ) → t < y .p → (k : ℕ) → sum (λ j. L.unitsOn y π t (y .c * k + j)) (y .c) ≡ y .l
+  any-whole-tile t h = L.whole-tile y tiled π ρ undo t h
+
+  -- so k whole tiles give it L·k; over the first n groups two targets' counts differ by at most L
   pub any-whole-tiles : (t : ℕ) → t < y .p → (k : ℕ) → L.load y π t (y .c * k) ≡ y .l * k
   any-whole-tiles t h = L.load-tiles y tiled π ρ undo t h
 
@@ -92,10 +97,20 @@ module _ (y : Layout) (valid : Valid y) where
       → (groupOf y x < allGroups y) × (unitIn y x < y .n) × (byteIn y x < y .u) × (offsetOf y (groupOf y x) (unitIn y x) (byteIn y x) ≡ x)
   offset-there-and-back x h = (B.group-lt y valid x h, B.unit-lt y valid x, B.byte-lt y valid x, B.offset-is y valid x)
 
+  -- and each byte of each data unit is that of one file offset
+  pub offset-back-and-there : (g c o : ℕ) → g < allGroups y → c < y .n → o < y .u
+      → (offsetOf y g c o < capacity y) × (groupOf y (offsetOf y g c o) ≡ g) × (unitIn y (offsetOf y g c o) ≡ c) × (byteIn y (offsetOf y g c o) ≡ o)
+  offset-back-and-there g c o hg hc ho =
+      (B.offset-lt y valid g c o hg hc ho, B.offset-group y valid g c o hc ho, B.offset-unit y valid g c o hc ho, B.offset-byte y valid g c o hc ho)
+
   pub offsets-apart : (x x′ : ℕ) → x < capacity y → x′ < capacity y → imageByte y x ≡ imageByte y x′ → x ≡ x′
   offsets-apart = B.image-apart y valid
 
-  -- k whole tiles give every target exactly L units each, and over the first n groups the unit counts of two targets differ by at most L
+  -- "a whole tile gives every target exactly L units": tile k itself, whose groups are those from C·k on
+  pub whole-tile : (t : ℕ) → t < y .p → (k : ℕ) → sum (λ j. L.unitsOn (widthsOf y) (targetsOf y) t (groups y * k + j)) (groups y) ≡ rows y
+  whole-tile t h = L.whole-tile (widthsOf y) (P.tiled y valid) (targetsOf y) (columnsOf y) (P.tiles y valid) t h
+
+  -- so the first k tiles give it L·k; over the first n groups the unit counts of two targets differ by at most L
   pub whole-tiles : (t : ℕ) → t < y .p → (k : ℕ) → L.load (widthsOf y) (targetsOf y) t (groups y * k) ≡ rows y * k
   whole-tiles = P.tile-load y valid
 

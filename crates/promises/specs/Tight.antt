@@ -1,5 +1,5 @@
 -- "For each, show that any two outcomes its promise allows are the same." A promise is an equation with a function of the inputs; the name
--- before each statement is the call's.
+-- before each statement is the call's. Encode and rebuild, the catalogue and the hex line have theirs in `Parity`, `Catalogue` and `HexLine`.
 use mathlib.Core.Path.{_≡_, sym, _∙_}
 use mathlib.Core.List.{List}
 use Prim.Native.Nat.{ℕ}
@@ -9,15 +9,18 @@ use Rattle.layout.specs.declared.Entries.{Entries}
 use Rattle.layout.specs.declared.Placed.{Placed}
 use Rattle.layout.specs.declared.Held.{Held}
 use Rattle.layout.specs.declared.Mapped.{Mapped}
+use Rattle.layout.specs.declared.Traced.{Traced}
 use Rattle.layout.specs.declared.Cursor.{Cursor}
 use Rattle.layout.specs.declared.Step.{Step}
 use Rattle.layout.specs.Measure.{measuredOf}
 use Rattle.layout.specs.Tiles.{permutedOf, invertedOf}
 use Rattle.layout.specs.Places.{placedOf, heldOf}
-use Rattle.layout.specs.Offsets.{mappedOf}
+use Rattle.layout.specs.Offsets.{mappedOf, tracedOf}
 use Rattle.layout.specs.Walk.{stepOf}
 use Rattle.homes.specs.declared.Record.{Record}
 use Rattle.pool.specs.Calls.{Reads, Writes, Fails, Repairs, Prepares, Shows}
+use Rattle.pool_look.specs.declared.Shown.{Shown}
+use Rattle.pool_look.specs.Shown.{shownAt}
 
 -- two that equal one are equal
 pub same : {A : Type 0} {a r r′ : A} → r ≡ a → r′ ≡ a → r ≡ r′
@@ -41,6 +44,9 @@ module _ (y : Layout) where
 
   pub map-offset-tight : (x : ℕ) (r r′ : Mapped) → r ≡ mappedOf y x → r′ ≡ mappedOf y x → r ≡ r′
   map-offset-tight x r r′ = same
+
+  pub map-byte-tight : (x : ℕ) (r r′ : Traced) → r ≡ tracedOf y x → r′ ≡ tracedOf y x → r ≡ r′
+  map-byte-tight x r r′ = same
 
   pub step-tight : (w : Cursor) (r r′ : Step) → r ≡ stepOf y w → r′ ≡ stepOf y w → r ≡ r′
   step-tight w r r′ = same
@@ -66,6 +72,11 @@ module _ (y : Layout) (R : Record) (img : List ℕ) where
       → (n ≡ n′) × (s ≡ s′)
   prepare-tight room group content n n′ s s′ p q = (same (p .answer) (q .answer), same (p .bytes) (q .bytes))
 
+  -- the bytes that are shown; which of the two slices they are a part of is `locate`'s to say
   pub show-tight : (scratch : List ℕ) (group content n n′ : ℕ) (s s′ : List ℕ) → Shows y R img scratch group content n s → Shows y R img scratch group content n′ s′
       → (n ≡ n′) × (s ≡ s′)
   show-tight scratch group content n n′ s s′ p q = (same (p .answer) (q .answer), same (p .bytes) (q .bytes))
+
+  -- it is lent lengths alone, `len` the image's and `room` the scratch's
+  pub locate-tight : (len room group content : ℕ) (x x′ : Shown) → x ≡ shownAt y R len room group content → x′ ≡ shownAt y R len room group content → x ≡ x′
+  locate-tight len room group content x x′ = same
