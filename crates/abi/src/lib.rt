@@ -13,6 +13,7 @@ use layout::Mapped;
 use layout::Measured;
 use layout::Placed;
 use layout::Step;
+use layout::Traced;
 use numbers::Layout;
 use place::Unit;
 use pool_fail::Failed;
@@ -23,7 +24,7 @@ ghost use lib.ListN.{length};
 ghost use Rattle.layout.specs.Measure.{measuredOf};
 ghost use Rattle.layout.specs.Tiles.{permutedOf, invertedOf};
 ghost use Rattle.layout.specs.Places.{placedOf, heldOf};
-ghost use Rattle.layout.specs.Offsets.{mappedOf};
+ghost use Rattle.layout.specs.Offsets.{mappedOf, tracedOf};
 ghost use Rattle.layout.specs.Walk.{stepOf};
 ghost use Rattle.group.specs.Encode.{Encodes};
 ghost use Rattle.group.specs.Rebuild.{Rebuilding};
@@ -75,6 +76,13 @@ pub extern "C" fn splicebell_map_offset(y: Layout, offset: u64) -> Mapped
     ensures { λ r. ⌜ r ≡ mappedOf y offset ⌝ }
 {
     layout::map_offset(y, offset)
+}
+
+#[no_mangle]
+pub extern "C" fn splicebell_map_byte(y: Layout, x: u64) -> Traced
+    ensures { λ r. ⌜ r ≡ tracedOf y x ⌝ }
+{
+    layout::map_byte(y, x)
 }
 
 // A step of the walk as numbers: C has no enum that holds values.

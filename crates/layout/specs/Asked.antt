@@ -7,12 +7,12 @@ use lib.Dec.{ltb, leb}
 use borrow.Author.Tests.{ltb-true, leb-true}
 use Rattle.lists.specs.Refusal.{refusal-lowest}
 use Rattle.numbers.specs.declared.Layout.{Layout}
-use Rattle.numbers.specs.Layouts.{Valid, width, frames, allGroups, capacity}
+use Rattle.numbers.specs.Layouts.{Valid, width, frames, allGroups, capacity, imageLength}
 use Rattle.numbers.specs.Refused.{validb, valid-of}
 use Rattle.layout.specs.declared.Cursor.{Cursor}
 use Rattle.layout.specs.Tiles.{tileRefusal}
 use Rattle.layout.specs.Places.{placeRefusal, unitRefusal}
-use Rattle.layout.specs.Offsets.{offsetRefusal}
+use Rattle.layout.specs.Offsets.{offsetRefusal, byteRefusal}
 use Rattle.layout.specs.Walk.{walkRefusal}
 
 module _ (y : Layout) where
@@ -39,6 +39,12 @@ module _ (y : Layout) where
   offset-asked x e =
       let p = refusal-lowest 1 ((validb y, 1) ∷ (ltb x (capacity y), 4) ∷ []) (omega arith) refl .none e in
       (valid-of y (p .0), ltb-true x (capacity y) (p .1 .0))
+
+  pub byte-asked : (x : ℕ) → byteRefusal y x ≡ 0 → Valid y × (x < imageLength y)
+  unfolding byteRefusal
+  byte-asked x e =
+      let p = refusal-lowest 1 ((validb y, 1) ∷ (ltb x (imageLength y), 4) ∷ []) (omega arith) refl .none e in
+      (valid-of y (p .0), ltb-true x (imageLength y) (p .1 .0))
 
   pub walk-asked : (w : Cursor) → walkRefusal y w ≡ 0 → Valid y × (w .target < y .p) × (w .frame ≤ frames y)
   unfolding walkRefusal

@@ -4,3 +4,4 @@ pub mod Places
 pub mod Offsets
 pub mod Walk
 pub mod Asked
+pub mod Traces

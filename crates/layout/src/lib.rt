@@ -1,13 +1,17 @@
-// The public calls on a layout: its numbers, a tile's permutation, places, offsets, and the walk
-// over one target. Each takes any numbers, tests everything itself, and answers a refusal number.
+// The public calls on a layout: its numbers, a tile's permutation, places, file offsets, image bytes,
+// and the walk over one target. Each takes any numbers, tests everything itself, and answers a
+// refusal number.
 use numbers::Layout;
 use numbers::Numbers;
 use place::Unit;
 ghost use mathlib.Core.Path.{_≡_};
+ghost use Prim.Native.Nat.{_<_};
+ghost use Rattle.numbers.specs.Layouts.{Valid, allGroups};
+ghost use Rattle.place.specs.Bytes.{offsetOf};
 ghost use Rattle.layout.specs.Measure.{noNumbers, measuredOf};
 ghost use Rattle.layout.specs.Tiles.{tileRefusal, permutedOf, invertedOf};
 ghost use Rattle.layout.specs.Places.{placeRefusal, placedOf, unitRefusal, heldOf};
-ghost use Rattle.layout.specs.Offsets.{offsetRefusal, mappedOf};
+ghost use Rattle.layout.specs.Offsets.{offsetRefusal, mappedOf, byteRefusal, tracedOf};
 ghost use Rattle.layout.specs.Walk.{walkRefusal, stepOf};
 
 // ---- the numbers
@@ -263,6 +267,86 @@ pub fn map_offset(y: Layout, offset: u64) -> Mapped
     }
 }
 
+// ---- image bytes
+
+// An image byte's group, unit and byte in the unit; whether the unit is a data unit, and the byte's
+// file offset then, while nothing has failed.
+#[repr(C)]
+pub struct Traced {
+    pub refusal: u64,
+    pub group: u64,
+    pub unit: u64,
+    pub byte: u64,
+    pub is_data: bool,
+    pub offset: u64,
+}
+
+fn byte_refusal(y: Layout, x: u64) -> u64
+    ensures { λ r. ⌜ r ≡ byteRefusal y x ⌝ }
+{
+    let refusal = numbers::refusal(y);
+    if refusal != 0 {
+        return refusal;
+    }
+    let numbers = numbers::numbers_of(y);
+    let image = numbers.image;
+    if image <= x {
+        return 4;
+    }
+    0
+}
+
+// The file offset of a byte of a data unit.
+fn offset_of(y: Layout, held: Unit, byte: u64) -> u64
+    requires { ⌜ Valid y × (held .group < allGroups y) × (held .unit < y .n) × (byte < y .u) ⌝ }
+    ensures { λ r. ⌜ r ≡ offsetOf y (held .group) (held .unit) byte ⌝ }
+{
+    let units = y.n;
+    let bytes = y.u;
+    let group = held.group;
+    let unit = held.unit;
+    units * bytes * group + (bytes * unit + byte)
+}
+
+// The way back from the image: `map_offset` of a data byte's answered offset answers the byte again.
+pub fn map_byte(y: Layout, x: u64) -> Traced
+    ensures { λ r. ⌜ r ≡ tracedOf y x ⌝ }
+{
+    let refusal = byte_refusal(y, x);
+    if refusal != 0 {
+        return Traced {
+            refusal,
+            group: 0,
+            unit: 0,
+            byte: 0,
+            is_data: false,
+            offset: 0,
+        };
+    }
+    let s = numbers::shape_of(y);
+    let l = s.l;
+    let t = y.t;
+    let u = y.u;
+    let drive = l * t * u;
+    let target = x / drive;
+    let frame = x % drive / u;
+    let byte = x % drive % u;
+    let held = place::unit_of(y, s, frame, target);
+    let group = held.group;
+    let unit = held.unit;
+    let data = y.n;
+    let is_data = unit < data;
+    let offset = if is_data { offset_of(y, held, byte) } else { 0 };
+    Traced {
+        refusal: 0,
+        group,
+        unit,
+        byte,
+        is_data,
+        offset,
+    }
+}
+
 // ---- the walk over one target
 
 #[repr(C)]
@@ -316,11 +400,12 @@ impl Cursor {
         }
         let s = numbers::shape_of(y);
         let unit = place::unit_of(y, s, frame, target);
+        let next = frame + 1;
         Step::At(
             unit,
             Cursor {
                 target,
-                frame: frame + 1,
+                frame: next,
             },
         )
     }

@@ -14,8 +14,6 @@ use Rattle.place.specs.PlaceLaws.{place-in, unit-in, there-and-back, bac
 use Rattle.place.specs.Bytes.{groupOf, unitIn, byteIn, offsetOf, spotOf, spot, imageByte, targetHere, frameHere, offsetHere, unitHere}
 
 module _ (y : Layout) (v : Valid y) where
-  -- ---- a file offset by its digits
-
   pub data-bytes : 0 < y .n * y .u
   data-bytes = mul-pos (v .some-data) (v .some-bytes)
 
@@ -44,14 +42,33 @@ module _ (y : Layout) (v : Valid y) where
   unfolding groupOf unitIn byteIn offsetOf
   offset-is x = ap (λ (r : ℕ). y .n * y .u * (x / (y .n * y .u)) + r) (div-add-mod (x % (y .n * y .u)) (y .u)) ∙ div-add-mod x (y .n * y .u)
 
+  in-data : (c o : ℕ) → c < y .n → o < y .u → y .u * c + o < y .n * y .u
+  in-data c o hc ho = subst (λ (m : ℕ). y .u * c + o < m) (mul-comm (y .u) (y .n)) (digits-below hc ho)
+
   pub offset-lt : (g c o : ℕ) → g < allGroups y → c < y .n → o < y .u → offsetOf y g c o < capacity y
   unfolding offsetOf
-  offset-lt g c o hg hc ho =
-      subst (λ (m : ℕ). y .n * y .u * g + (y .u * c + o) < m) regroup
-      (digits-below hg (subst (λ (m : ℕ). y .u * c + o < m) (mul-comm (y .u) (y .n)) (digits-below hc ho)))
+  offset-lt g c o hg hc ho = subst (λ (m : ℕ). y .n * y .u * g + (y .u * c + o) < m) regroup (digits-below hg (in-data c o hc ho))
     where
       regroup : y .n * y .u * allGroups y ≡ y .t * groups y * y .n * y .u
       regroup = simp (mul-assoc, mul-comm, mul-left-comm) refl
+
+  -- and back: the digits of the file offset of byte o of data unit c of group g
+  module _ (g c o : ℕ) (hc : c < y .n) (ho : o < y .u) where
+    pub offset-group : groupOf y (offsetOf y g c o) ≡ g
+    unfolding groupOf offsetOf
+    offset-group = div-of (y .n * y .u) g (in-data c o hc ho)
+
+    offset-rest : offsetOf y g c o % (y .n * y .u) ≡ y .u * c + o
+    unfolding offsetOf
+    offset-rest = mod-of (y .n * y .u) g (in-data c o hc ho)
+
+    pub offset-unit : unitIn y (offsetOf y g c o) ≡ c
+    unfolding unitIn
+    offset-unit = ap (λ (r : ℕ). r / y .u) offset-rest ∙ div-of (y .u) c ho
+
+    pub offset-byte : byteIn y (offsetOf y g c o) ≡ o
+    unfolding byteIn
+    offset-byte = ap (λ (r : ℕ). r % y .u) offset-rest ∙ mod-of (y .u) c ho
 
   -- ---- a byte of the image by its digits
 
@@ -156,6 +173,23 @@ module _ (y : Layout) (v : Valid y) where
     pub unit-here-lt : unitHere y x .unit < width y
     unfolding unitHere
     unit-here-lt = unit-in y v (frameHere y x) (targetHere y x) (target-here-lt x h) (frame-here-lt x) .1
+
+    -- a byte of a data unit is the image byte of its file offset
+    pub image-back : unitHere y x .unit < y .n → imageByte y (offsetOf y (unitHere y x .group) (unitHere y x .unit) (offsetHere y x)) ≡ x
+    unfolding imageByte
+    image-back d = (λ j. spot y (offset-group g c o d ho j) (offset-unit g c o d ho j) (offset-byte g c o d ho j)) ∙ spot-here
+      where
+        g : ℕ
+        g = unitHere y x .group
+
+        c : ℕ
+        c = unitHere y x .unit
+
+        o : ℕ
+        o = offsetHere y x
+
+        ho : o < y .u
+        ho = offset-here-lt x
 
   -- ---- no two bytes of the file share a byte of the image
 

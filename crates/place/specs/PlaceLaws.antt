@@ -30,11 +30,13 @@ module _ (y : Layout) (v : Valid y) where
   -- the two maps undo each other over the whole pool
   pub there-and-back : (g u : ℕ) → u < width y → unitOf y (placeOf y g u .frame) (placeOf y g u .target) ≡ record { group = g; unit = u }
   unfolding placeOf unitOf
-  there-and-back g u h = λ i. record { group = U.group-back (widthsOf y) tiled (targetsOf y) (columnsOf y) tiles g u h i; unit = U.unit-back (widthsOf y) tiled (targetsOf y) (columnsOf y) tiles g u h i }
+  there-and-back g u h =
+      λ i. record { group = U.group-back (widthsOf y) tiled (targetsOf y) (columnsOf y) tiles g u h i; unit = U.unit-back (widthsOf y) tiled (targetsOf y) (columnsOf y) tiles g u h i }
 
   pub back-and-there : (r t : ℕ) → t < y .p → placeOf y (unitOf y r t .group) (unitOf y r t .unit) ≡ record { frame = r; target = t }
   unfolding placeOf unitOf
-  back-and-there r t h = λ i. record { frame = U.frame-back (widthsOf y) tiled (targetsOf y) (columnsOf y) tiles r t h i; target = U.target-back (widthsOf y) tiled (targetsOf y) (columnsOf y) tiles r t h i }
+  back-and-there r t h =
+      λ i. record { frame = U.frame-back (widthsOf y) tiled (targetsOf y) (columnsOf y) tiles r t h i; target = U.target-back (widthsOf y) tiled (targetsOf y) (columnsOf y) tiles r t h i }
 
   pub cell-in : (g u : ℕ) → u < width y → g < allGroups y → (cellOf y g u .frame < frames y) × (cellOf y g u .column < y .p)
   unfolding cellOf

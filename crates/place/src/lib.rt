@@ -101,8 +101,9 @@ pub fn place_of(y: Layout, s: Shape, g: u64, u: u64) -> Place
     requires { ⌜ Valid y × Shaped y s × (g < allGroups y) × (u < width y) ⌝ }
     ensures { λ r. ⌜ r ≡ placeOf y g u ⌝ }
 {
-    let to = tile::permutation(y.p, y.cookie, g / s.c);
     let a = cell_of(y, s, g, u);
+    let tile = g / s.c;
+    let to = tile::permutation(y.p, y.cookie, tile);
     place_at(&to, a)
 }
 

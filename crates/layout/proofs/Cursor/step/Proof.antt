@@ -47,8 +47,8 @@ unit-of-requires c κs =
     let h : c .before .before .before .before .before .args .self .frame < frames y = omega arith in
     (a .0, c .shape-of .ensures, h, a .1)
 
-add-t11 : tie.Need-add-t11
-add-t11 c = search needs
+add-next : tie.Need-add-next
+add-next c = search needs
 
 returns-3 : tie.Need-returns-3
 unfolding stepOf
@@ -70,5 +70,5 @@ step-spec =
     returns-2
     shape-of-requires
     unit-of-requires
-    add-t11
+    add-next
     returns-3)
