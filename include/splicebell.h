@@ -77,6 +77,13 @@ typedef struct splicebell_mapped {
     uint64_t refusal, group, unit, byte, image;
 } splicebell_mapped;
 
+/* What a byte of the image holds; offset is 0 where it is none of the file's. */
+typedef struct splicebell_traced {
+    uint64_t refusal, group, unit, byte;
+    bool is_data;
+    uint64_t offset;
+} splicebell_traced;
+
 typedef struct splicebell_unit {
     uint64_t group, unit;
 } splicebell_unit;
@@ -158,6 +165,11 @@ splicebell_held splicebell_find_unit(splicebell_layout y, uint64_t frame, uint64
 /* A file offset's group, unit and byte in the unit, and its byte of the image while nothing has failed.
  * Refusals: 1, 4 (offset >= capacity). */
 splicebell_mapped splicebell_map_offset(splicebell_layout y, uint64_t offset);
+
+/* An image byte's group, unit and byte in the unit, whether that is a data unit, and then its file offset,
+ * while nothing has failed: what undoes map_offset.
+ * Refusals: 1, 4 (x >= P*L*T*U). */
+splicebell_traced splicebell_map_byte(splicebell_layout y, uint64_t x);
 
 /* The unit at the cursor and the next cursor; at frame L*T done. Done or refused, the cursor comes back.
  * Refusals: 1, 4 (target >= P or frame > L*T). */

@@ -1,4 +1,5 @@
-//! Where a unit lies, which unit lies there, where a file byte lies, the walk.
+//! Where a unit lies, which unit lies there, where a file byte lies, what an
+//! image byte holds, the walk.
 //!
 //! Document 01: "Group g lies in tile g div C, row j = g mod C. With
 //! x = W·j + u: row x div P, column x mod P; frame = L·tile + x div P, target =
@@ -32,6 +33,17 @@ pub struct FileByte {
     pub unit: u64,
     pub byte: u64,
     pub image: u64,
+}
+
+/// A byte of the image: its group, unit and byte in the unit, and the file
+/// offset that it holds where the unit is one of the N data units, all with an
+/// empty failure list.
+#[derive(Clone, Copy, Debug, Default, PartialEq, Eq)]
+pub struct ImageByte {
+    pub group: u64,
+    pub unit: u64,
+    pub byte: u64,
+    pub offset: Option<u64>,
 }
 
 /// Where frame `frame` of target `target` begins in the image, both inside.
@@ -107,6 +119,36 @@ pub fn file_byte(layout: &Layout, offset: u64) -> (u64, FileByte) {
     )
 }
 
+/// Public call: an image byte to what it holds ("the maps from file offset to
+/// place and back"); refusals 1, 4.
+///
+/// Targets lie one after the other, L·T·U bytes each, and the frames of a
+/// target one after the other, U bytes each. Parity and spares are no part of
+/// the file, so only a data unit's byte has an offset.
+pub fn image_byte(layout: &Layout, image: u64) -> (u64, ImageByte) {
+    let (refusal, numbers) = layout.numbers();
+    if refusal != 0 {
+        return (1, ImageByte::default());
+    }
+    if image >= numbers.image {
+        return (4, ImageByte::default());
+    }
+    let of_a_target = numbers.frames * layout.u;
+    let (target, in_target) = (image / of_a_target, image % of_a_target);
+    let (frame, byte) = (in_target / layout.u, in_target % layout.u);
+    let (_, Unit { group, unit }) = unit_at(layout, frame, target);
+    let offset = (unit < layout.n).then(|| (group * layout.n + unit) * layout.u + byte);
+    (
+        0,
+        ImageByte {
+            group,
+            unit,
+            byte,
+            offset,
+        },
+    )
+}
+
 /// The cursor of a walk over one target.
 #[derive(Clone, Copy, Debug, PartialEq, Eq)]
 pub struct Cursor {
@@ -168,6 +210,78 @@ mod tests {
                         (0, Unit { group, unit })
                     );
                 }
+            }
+        }
+    }
+
+    /// Whole pools: with and without parity, U from 1, several tiles, groups
+    /// that cross rows, P a multiple of W and not.
+    fn small_pools() -> [Layout; 6] {
+        [
+            layout(1, 0, 1, 1, 1, 0),
+            layout(1, 1, 4, 4, 1, 0),
+            layout(4, 2, 20, 3, 3, 9),
+            layout(3, 1, 7, 1, 2, u64::MAX),
+            layout(2, 3, 9, 5, 4, 1 << 63),
+            layout(16, 3, 22, 2, 2, 5),
+        ]
+    }
+
+    #[test]
+    fn every_file_byte_leads_to_the_image_and_back() {
+        for shape in small_pools() {
+            for offset in 0..shape.derived().capacity {
+                let (refusal, there) = file_byte(&shape, offset);
+                assert_eq!(refusal, 0);
+                let back = ImageByte {
+                    group: there.group,
+                    unit: there.unit,
+                    byte: there.byte,
+                    offset: Some(offset),
+                };
+                assert_eq!(image_byte(&shape, there.image), (0, back));
+            }
+        }
+    }
+
+    #[test]
+    fn every_image_byte_is_one_byte_of_one_unit() {
+        for shape in small_pools() {
+            let numbers = shape.derived();
+            let mut held = Vec::new();
+            let mut data = 0;
+            for x in 0..numbers.image {
+                let (refusal, at) = image_byte(&shape, x);
+                assert_eq!(refusal, 0);
+                assert_eq!(place(&shape, at.group, at.unit).1.begins + at.byte, x);
+                assert_eq!(at.offset.is_some(), at.unit < shape.n);
+                if let Some(offset) = at.offset {
+                    data += 1;
+                    assert_eq!(file_byte(&shape, offset).1.image, x);
+                }
+                held.push((at.group, at.unit, at.byte));
+            }
+            held.sort_unstable();
+            let all = (0..numbers.groups).flat_map(|group| {
+                let bytes_of = move |unit| (0..shape.u).map(move |byte| (group, unit, byte));
+                (0..numbers.w).flat_map(bytes_of)
+            });
+            assert!(held.into_iter().eq(all));
+            assert_eq!(data, numbers.capacity);
+        }
+    }
+
+    #[test]
+    fn what_is_no_image_byte_holds_nothing() {
+        let none = ImageByte::default();
+        for shape in small_pools() {
+            let length = shape.derived().image;
+            assert_eq!(image_byte(&shape, length - 1).0, 0);
+            for x in [length, length + 1, u64::MAX] {
+                assert_eq!(image_byte(&shape, x), (4, none));
+            }
+            for x in [0, length, u64::MAX] {
+                assert_eq!(image_byte(&Layout { u: 0, ..shape }, x), (1, none));
             }
         }
     }

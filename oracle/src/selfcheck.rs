@@ -5,7 +5,7 @@ use crate::group::{coefficient, encode};
 use crate::hexline::hex_line;
 use crate::layout::{layout, range_refusal, Layout};
 use crate::permutation::{advance, permutation, start};
-use crate::place::{file_byte, place};
+use crate::place::{file_byte, image_byte, place};
 use crate::pool::{fail, homes, read, repair, unit_targets, write, Record};
 
 /// One example: the words of document 01 and whether this library agrees.
@@ -112,7 +112,9 @@ fn example_places() -> bool {
 
 fn offset_nine() -> bool {
     let (refusal, at) = file_byte(&example(), 9);
+    let (refused_back, back) = image_byte(&example(), 41);
     (refusal, at.group, at.unit, at.byte, at.image) == (0, 2, 0, 1, 41)
+        && (refused_back, back.group, back.unit, back.byte, back.offset) == (0, 2, 0, 1, Some(9))
 }
 
 fn offset_sixteen() -> bool {

@@ -43,6 +43,10 @@ pub fn map_offset(y: splicebell_layout, offset: u64) -> splicebell_mapped {
     unsafe { splicebell_map_offset(y, offset) }
 }
 
+pub fn map_byte(y: splicebell_layout, x: u64) -> splicebell_traced {
+    unsafe { splicebell_map_byte(y, x) }
+}
+
 pub fn step(y: splicebell_layout, at: splicebell_cursor) -> splicebell_walked {
     unsafe { splicebell_step(y, at) }
 }

@@ -83,6 +83,19 @@ pub struct Mapped {
     pub image: u64,
 }
 
+/// What a byte of the image holds, while nothing has failed.
+#[derive(Clone, Copy, Debug, PartialEq, Eq, Hash)]
+pub struct Traced {
+    /// The group.
+    pub group: u64,
+    /// The unit of the group.
+    pub unit: u64,
+    /// The byte of the unit.
+    pub byte: u64,
+    /// The byte of the file, where the unit is a data unit; none of parity and spares.
+    pub offset: Option<u64>,
+}
+
 /// A place of a walk: the next frame to visit on a target.
 #[derive(Clone, Copy, Debug, PartialEq, Eq, Hash)]
 pub struct Cursor {
@@ -145,6 +158,23 @@ impl Layout {
         let raw::splicebell_mapped { refusal, group, unit, byte, image } =
             calls::map_offset(self.to_raw(), offset);
         answered(refusal, Mapped { group, unit, byte, image })
+    }
+
+    /// What a byte of the image holds: what undoes [`Layout::map`].
+    ///
+    /// ```
+    /// let layout = splicebell::Layout { n: 1, k: 1, p: 4, u: 4, t: 1, cookie: 0 };
+    /// let data = layout.trace(41)?;
+    /// assert_eq!((data.group, data.unit, data.byte, data.offset), (2, 0, 1, Some(9)));
+    /// let parity = layout.trace(14)?;
+    /// assert_eq!((parity.group, parity.unit, parity.byte, parity.offset), (0, 1, 2, None));
+    /// # Ok::<(), splicebell::Refusal>(())
+    /// ```
+    pub fn trace(&self, image: u64) -> Result<Traced> {
+        let raw::splicebell_traced { refusal, group, unit, byte, is_data, offset } =
+            calls::map_byte(self.to_raw(), image);
+        let offset = is_data.then_some(offset);
+        answered(refusal, Traced { group, unit, byte, offset })
     }
 
     /// One step of a walk: the unit at the cursor with the next cursor, or none behind the last frame.

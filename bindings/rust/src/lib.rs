@@ -30,6 +30,6 @@ pub mod raw;
 mod refusal;
 
 pub use catalogue::{Catalogue, Entry, Key, Page};
-pub use layout::{Cursor, Layout, Mapped, Numbers, Place, Unit, Walk};
+pub use layout::{Cursor, Layout, Mapped, Numbers, Place, Traced, Unit, Walk};
 pub use pool::{Pool, Record};
 pub use refusal::{Refusal, Result};

@@ -79,6 +79,17 @@ pub struct splicebell_mapped {
 
 #[repr(C)]
 #[derive(Clone, Copy, Debug, Default, PartialEq, Eq)]
+pub struct splicebell_traced {
+    pub refusal: u64,
+    pub group: u64,
+    pub unit: u64,
+    pub byte: u64,
+    pub is_data: bool,
+    pub offset: u64,
+}
+
+#[repr(C)]
+#[derive(Clone, Copy, Debug, Default, PartialEq, Eq)]
 pub struct splicebell_unit {
     pub group: u64,
     pub unit: u64,
@@ -169,6 +180,7 @@ extern "C" {
     pub fn splicebell_find_place(y: splicebell_layout, group: u64, unit: u64) -> splicebell_placed;
     pub fn splicebell_find_unit(y: splicebell_layout, frame: u64, target: u64) -> splicebell_held;
     pub fn splicebell_map_offset(y: splicebell_layout, offset: u64) -> splicebell_mapped;
+    pub fn splicebell_map_byte(y: splicebell_layout, x: u64) -> splicebell_traced;
     pub fn splicebell_step(y: splicebell_layout, at: splicebell_cursor) -> splicebell_walked;
     pub fn splicebell_encode(y: splicebell_layout, buf: *mut u8, len: usize) -> u64;
     pub fn splicebell_rebuild(

@@ -1,5 +1,7 @@
 //! The safe interface on a small pool and a small catalogue.
-use splicebell::{Catalogue, Cursor, Entry, Key, Layout, Page, Pool, Record, Refusal, Unit};
+use splicebell::{
+    Catalogue, Cursor, Entry, Key, Layout, Mapped, Page, Pool, Record, Refusal, Traced, Unit,
+};
 
 /// Two data, two parity and two spare units a group over seven targets.
 const LAYOUT: Layout = Layout { n: 2, k: 2, p: 7, u: 3, t: 2, cookie: 11 };
@@ -94,6 +96,27 @@ fn places_and_offsets_lead_to_each_other() -> Result<(), Refusal> {
     assert_eq!(mapped.image, place.begins + mapped.byte);
     assert_eq!(LAYOUT.unit_at(place.frame, place.target)?, Unit { group: 1, unit: 1 });
     assert_eq!(LAYOUT.permutation(2), Err(Refusal::Outside));
+    Ok(())
+}
+
+#[test]
+fn every_image_byte_leads_back() -> Result<(), Refusal> {
+    let numbers = LAYOUT.measure()?;
+    for offset in 0..numbers.capacity {
+        let Mapped { group, unit, byte, image } = LAYOUT.map(offset)?;
+        assert_eq!(LAYOUT.trace(image)?, Traced { group, unit, byte, offset: Some(offset) });
+    }
+    let mut data = 0;
+    for image in 0..numbers.image {
+        let traced = LAYOUT.trace(image)?;
+        assert_eq!(LAYOUT.place(traced.group, traced.unit)?.begins + traced.byte, image);
+        assert_eq!(traced.offset.is_some(), traced.unit < LAYOUT.n);
+        data += u64::from(traced.offset.is_some());
+    }
+    assert_eq!(data, numbers.capacity);
+    assert_eq!(LAYOUT.trace(numbers.image), Err(Refusal::Outside));
+    assert_eq!(LAYOUT.trace(u64::MAX), Err(Refusal::Outside));
+    assert_eq!(Layout { p: 65, ..LAYOUT }.trace(0), Err(Refusal::BadLayout));
     Ok(())
 }
 

@@ -165,6 +165,36 @@ fn show_offset(y: Layout, offset: u64) {
     newline();
 }
 
+fn show_byte(y: Layout, image: u64) {
+    let at = layout::map_byte(y, image);
+    labelled(b"image byte ", image);
+    if at.refusal != 0 {
+        labelled(b": refusal ", at.refusal);
+        newline();
+        return;
+    }
+    labelled(b": group ", at.group);
+    labelled(b" unit ", at.unit);
+    labelled(b" byte ", at.byte);
+    if at.is_data {
+        labelled(b", offset ", at.offset);
+    } else {
+        text(b", not of the file");
+    }
+    newline();
+}
+
+// The bytes of offsets 0, 9 and 15, one of a parity unit, one of a spare, one past the image.
+fn show_bytes(y: Layout) {
+    text(b"And back from bytes of the image\n");
+    show_byte(y, 24);
+    show_byte(y, 41);
+    show_byte(y, 23);
+    show_byte(y, 14);
+    show_byte(y, 36);
+    show_byte(y, 48);
+}
+
 // Dividing offset 9 by the spares too, beside what is right.
 fn show_slip(y: Layout) {
     text(b"The slip of dividing by the spares too\n");
@@ -197,5 +227,6 @@ fn main() {
     show_offset(y, 9);
     show_offset(y, 15);
     show_offset(y, 16);
+    show_bytes(y);
     show_slip(y);
 }

@@ -22,6 +22,7 @@ fn bound(n: u64, k: u64, p: u64, u: u64, t: u64, cookie: u64) {
     crate::show::place(y, 0, 0);
     crate::show::back(y, 0, 0);
     crate::show::offset(y, 0);
+    crate::show::byte(y, 0);
     crate::show::step(y, 0, 0);
     crate::show::step(y, 3, ONES);
 }

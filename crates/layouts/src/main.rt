@@ -1,5 +1,5 @@
-// Layouts over the whole range, with their numbers, permutations, places, offsets, walks and
-// refusals; seeded, and compared with what `oracle/` prints.
+// Layouts over the whole range, with their numbers, permutations, places, offsets, image bytes,
+// walks and refusals; seeded, and compared with what `oracle/` prints.
 mod bounds;
 mod drawn;
 mod show;

@@ -126,6 +126,28 @@ pub fn offset(y: Layout, x: u64) {
     newline();
 }
 
+// A flag in the line, as 1 or 0.
+fn flag(set: bool) {
+    if set {
+        number(1);
+    } else {
+        number(0);
+    }
+}
+
+pub fn byte(y: Layout, x: u64) {
+    let at = layout::map_byte(y, x);
+    text(b"byte");
+    number(x);
+    number(at.refusal);
+    number(at.group);
+    number(at.unit);
+    number(at.byte);
+    flag(at.is_data);
+    number(at.offset);
+    newline();
+}
+
 fn cursor(at: Cursor) {
     number(at.target);
     number(at.frame);
@@ -213,6 +235,18 @@ fn offsets(y: Layout, m: Numbers, seed: &mut u64) {
     offset(y, ONES);
 }
 
+fn bytes(y: Layout, m: Numbers, seed: &mut u64) {
+    let first = rem(trial::wider(seed), m.image);
+    let second = rem(trial::wider(seed), m.image);
+    byte(y, 0);
+    byte(y, 1);
+    byte(y, first);
+    byte(y, second);
+    byte(y, before(m.image));
+    byte(y, m.image);
+    byte(y, ONES);
+}
+
 fn walk(y: Layout, m: Numbers, target: u64) {
     step(y, target, 0);
     step(y, target, 1);
@@ -237,5 +271,6 @@ pub fn whole(y: Layout, seed: &mut u64) {
     places(y, m, seed);
     backs(y, m, seed);
     offsets(y, m, seed);
+    bytes(y, m, seed);
     walks(y, m, seed);
 }

@@ -1,10 +1,10 @@
-//! `examples`: document 01's checked examples of layouts, permutation, places
-//! and walk, in words.
+//! `examples`: document 01's checked examples of layouts, permutation, places,
+//! walk and offsets, in words.
 
 use super::{line, spaced};
 use crate::layout::{layout, Layout};
 use crate::permutation::{advance, inverse, permutation, start};
-use crate::place::{file_byte, place, step, unit_at, Cursor, Step};
+use crate::place::{file_byte, image_byte, place, step, unit_at, Cursor, Step};
 
 /// The whole output.
 pub fn output() -> String {
@@ -28,6 +28,10 @@ pub fn output() -> String {
     line!(out, "File offsets");
     for offset in [0, 9, 15, 16] {
         offset_line(&mut out, &example, offset);
+    }
+    line!(out, "And back from bytes of the image");
+    for image in [24, 41, 23, 14, 36, 48] {
+        byte_line(&mut out, &example, image);
     }
     line!(out, "The slip of dividing by the spares too");
     slip(&mut out, &example);
@@ -133,6 +137,27 @@ fn offset_line(out: &mut String, shape: &Layout, offset: u64) {
     } else {
         line!(out, "offset {}: refusal {}", offset, refusal);
     }
+}
+
+fn byte_line(out: &mut String, shape: &Layout, image: u64) {
+    let (refusal, at) = image_byte(shape, image);
+    if refusal != 0 {
+        line!(out, "image byte {}: refusal {}", image, refusal);
+        return;
+    }
+    let held = match at.offset {
+        Some(offset) => format!("offset {offset}"),
+        None => "not of the file".to_string(),
+    };
+    line!(
+        out,
+        "image byte {}: group {} unit {} byte {}, {}",
+        image,
+        at.group,
+        at.unit,
+        at.byte,
+        held
+    );
 }
 
 fn slip(out: &mut String, shape: &Layout) {

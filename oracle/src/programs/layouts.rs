@@ -1,11 +1,11 @@
-//! `layouts`: numbers, permutations, places, offsets, walks and refusals over
-//! the whole range of layouts.
+//! `layouts`: numbers, permutations, places, offsets, image bytes, walks and
+//! refusals over the whole range of layouts.
 
 use super::{line, spaced};
 use crate::draws::Draws;
 use crate::layout::{layout, Layout};
 use crate::permutation::{inverse, permutation};
-use crate::place::{file_byte, place, step, unit_at, Cursor, Step};
+use crate::place::{file_byte, image_byte, place, step, unit_at, Cursor, Step};
 
 const ONES: u64 = u64::MAX;
 
@@ -118,6 +118,7 @@ fn show(out: &mut String, draws: &mut Draws, shape: &Layout) {
     groups(out, draws, shape);
     backs(out, draws, shape);
     offsets(out, draws, shape);
+    bytes(out, draws, shape);
     walks(out, draws, shape);
 }
 
@@ -222,6 +223,30 @@ fn offsets(out: &mut String, draws: &mut Draws, shape: &Layout) {
     }
 }
 
+fn bytes(out: &mut String, draws: &mut Draws, shape: &Layout) {
+    let image = shape.derived().image;
+    let first = draws.wider() % image;
+    let second = draws.wider() % image;
+    for x in [0, 1, first, second, image - 1, image, ONES] {
+        byte_line(out, shape, x);
+    }
+}
+
+fn byte_line(out: &mut String, shape: &Layout, x: u64) {
+    let (refusal, at) = image_byte(shape, x);
+    line!(
+        out,
+        "byte {} {} {} {} {} {} {}",
+        x,
+        refusal,
+        at.group,
+        at.unit,
+        at.byte,
+        u64::from(at.offset.is_some()),
+        at.offset.unwrap_or(0)
+    );
+}
+
 fn walks(out: &mut String, draws: &mut Draws, shape: &Layout) {
     let frames = shape.derived().frames;
     let drawn = draws.draw(shape.p);
@@ -283,6 +308,7 @@ fn bound(out: &mut String, shape: &Layout) {
         at.byte,
         at.image
     );
+    byte_line(out, shape, 0);
     for (target, frame) in [(0, 0), (3, ONES)] {
         walk_line(out, shape, Cursor { target, frame });
     }

@@ -1,4 +1,4 @@
-//! Calls that lend nothing: layout numbers, permutation, places, offsets and the walk.
+//! Calls that lend nothing: layout numbers, permutation, places, offsets, image bytes and the walk.
 
 use crate::bench::Bench;
 use crate::layouts::{any, fitting, lent, perhaps_damaged, told};
@@ -16,14 +16,15 @@ pub fn round(bench: &mut Bench) {
     let mut cursor = Cursor { target: bench.draws.below(layout.p), frame: 0 };
     for _ in 0..bench.draws.between(10, 40) {
         let y = perhaps_damaged(&mut bench.draws, &layout);
-        match bench.draws.below(8) {
+        match bench.draws.below(9) {
             0 => measure(bench, &y),
             1 => tile_permutation(bench, &y),
             2 => tile_inverse(bench, &y),
             3 => find_place(bench, &y),
             4 => find_unit(bench, &y),
             5 => map_offset(bench, &y),
-            6 => {
+            6 => map_byte(bench, &y),
+            7 => {
                 let frames = y.derived().frames;
                 let at = Cursor { target: bench.draws.near(y.p), frame: bench.draws.near(frames) };
                 step(bench, &y, at);
@@ -123,6 +124,22 @@ fn map_offset(bench: &mut Bench, y: &Layout) {
     trial.number("unit", answer.unit, expected.unit);
     trial.number("byte", answer.byte, expected.byte);
     trial.number("image", answer.image, expected.image);
+    bench.end(trial, refusal);
+}
+
+fn map_byte(bench: &mut Bench, y: &Layout) {
+    let x = bench.draws.near(y.derived().image);
+    let inputs = || format!("{} image byte {x}", told(y));
+    let mut trial = bench.begin(Call::MapByte, &inputs);
+    // SAFETY: nothing is lent.
+    let answer = unsafe { raw::splicebell_map_byte(lent(y), x) };
+    let (refusal, expected) = oracle::place::image_byte(y, x);
+    trial.number("refusal", answer.refusal, refusal);
+    trial.number("group", answer.group, expected.group);
+    trial.number("unit", answer.unit, expected.unit);
+    trial.number("byte", answer.byte, expected.byte);
+    trial.flag("is_data", &answer.is_data, expected.offset.is_some());
+    trial.number("offset", answer.offset, expected.offset.unwrap_or(0));
     bench.end(trial, refusal);
 }
 

@@ -1,4 +1,4 @@
-//! What has been tried so far: the calls, the refusal numbers and the layouts.
+//! What has been tried so far: the calls with their refusal numbers, and the layouts.
 
 use oracle::layout::Layout;
 
@@ -11,6 +11,7 @@ pub enum Call {
     FindPlace,
     FindUnit,
     MapOffset,
+    MapByte,
     Step,
     Encode,
     Rebuild,
@@ -27,32 +28,34 @@ pub enum Call {
     HexLine,
 }
 
-const NAMES: [&str; 20] = [
-    "measure",
-    "tile_permutation",
-    "tile_inverse",
-    "find_place",
-    "find_unit",
-    "map_offset",
-    "step",
-    "encode",
-    "rebuild",
-    "fail",
-    "read",
-    "write",
-    "repair",
-    "prepare",
-    "show",
-    "lookup",
-    "insert",
-    "delete",
-    "listing",
-    "hex_line",
+/// The name of each call, and the numbers that it may answer by include/splicebell.h, beside 0.
+const CALLS: [(&str, &[usize]); 21] = [
+    ("measure", &[1]),
+    ("tile_permutation", &[1, 4]),
+    ("tile_inverse", &[1, 4]),
+    ("find_place", &[1, 4]),
+    ("find_unit", &[1, 4]),
+    ("map_offset", &[1, 4]),
+    ("map_byte", &[1, 4]),
+    ("step", &[1, 4]),
+    ("encode", &[1, 5]),
+    ("rebuild", &[1, 4, 5, 8]),
+    ("fail", &[1, 2, 3, 4, 6, 7]),
+    ("read", &[1, 2, 3, 4]),
+    ("write", &[1, 2, 3, 4]),
+    ("repair", &[1, 2, 3]),
+    ("prepare", &[1, 2, 3, 4, 5]),
+    ("show", &[1, 2, 3, 4, 5]),
+    ("lookup", &[9, 11]),
+    ("insert", &[9, 10]),
+    ("delete", &[9, 11]),
+    ("listing", &[9]),
+    ("hex_line", &[1, 2, 4, 5]),
 ];
 
 impl Call {
     pub fn name(self) -> &'static str {
-        NAMES[self as usize]
+        CALLS[self as usize].0
     }
 }
 
@@ -103,23 +106,18 @@ impl Ranges {
 }
 
 pub struct Tally {
-    calls: [u64; NAMES.len()],
-    refusals: [u64; REFUSALS],
+    /// How often each call answered each number.
+    counts: [[u64; REFUSALS]; CALLS.len()],
     all: Ranges,
     pools: Ranges,
 }
 
 impl Tally {
-    pub const NONE: Tally = Tally {
-        calls: [0; NAMES.len()],
-        refusals: [0; REFUSALS],
-        all: Ranges::NONE,
-        pools: Ranges::NONE,
-    };
+    pub const NONE: Tally =
+        Tally { counts: [[0; REFUSALS]; CALLS.len()], all: Ranges::NONE, pools: Ranges::NONE };
 
     pub fn add(&mut self, call: Call, refusal: u64) {
-        self.calls[call as usize] += 1;
-        self.refusals[refusal as usize] += 1;
+        self.counts[call as usize][refusal as usize] += 1;
     }
 
     /// A layout that calls without an image are tried with.
@@ -135,27 +133,34 @@ impl Tally {
     }
 
     pub fn calls(&self) -> u64 {
-        self.calls.iter().sum()
+        self.counts.iter().flatten().sum()
+    }
+
+    /// How often a number was answered, by whatever call.
+    fn of_refusal(&self, number: usize) -> u64 {
+        self.counts.iter().map(|of_call| of_call[number]).sum()
     }
 
     pub fn print(&self) {
-        for (name, count) in NAMES.iter().zip(self.calls) {
-            println!("{name:17}{count:9}");
+        for ((name, _), of_call) in CALLS.iter().zip(self.counts) {
+            let met = of_call.iter().enumerate().filter(|(_, count)| **count != 0);
+            let met: Vec<_> = met.map(|(number, count)| format!("{number}: {count}")).collect();
+            println!("{name:17}{:9}   {}", of_call.iter().sum::<u64>(), met.join(", "));
         }
-        for (number, count) in self.refusals.iter().enumerate() {
-            println!("refusal {number:<9}{count:9}");
+        for number in 0..REFUSALS {
+            println!("refusal {number:<9}{:9}", self.of_refusal(number));
         }
         self.all.print("without an image");
         self.pools.print("pools");
     }
 
-    /// The calls and refusal numbers that were never met.
+    /// The calls and their refusal numbers that were never met.
     pub fn never_met(&self) -> Vec<String> {
-        let calls = NAMES.iter().zip(self.calls).filter(|(_, count)| *count == 0);
-        let numbers = self.refusals.iter().enumerate().filter(|(_, count)| **count == 0);
-        calls
-            .map(|(name, _)| name.to_string())
-            .chain(numbers.map(|(number, _)| format!("refusal {number}")))
-            .collect()
+        let mut never = Vec::new();
+        for ((name, refusals), of_call) in CALLS.iter().zip(self.counts) {
+            let numbers = [0].iter().chain(*refusals).filter(|number| of_call[**number] == 0);
+            never.extend(numbers.map(|number| format!("{name} with {number}")));
+        }
+        never
     }
 }
