@@ -8,6 +8,7 @@ use Rattle.lists.specs.Refusal.{refusalBy, grant}
 use Rattle.numbers.specs.declared.Layout.{Layout}
 use Rattle.numbers.specs.Layouts.{capacity, imageLength}
 use Rattle.numbers.specs.Refused.{validb}
+use Rattle.place.specs.declared.Unit.{Unit}
 use Rattle.place.specs.Bytes.{groupOf, unitIn, byteIn, offsetOf, imageByte, offsetHere, unitHere}
 use Rattle.layout.specs.declared.Mapped.{Mapped}
 use Rattle.layout.specs.declared.Traced.{Traced}
@@ -30,6 +31,10 @@ byteRefusal y x = refusalBy ((validb y, 1) ∷ (ltb x (imageLength y), 4) ∷ []
 abbrev pub isData : Layout → ℕ → Bool
 isData y x = ltb (unitHere y x .unit) (y .n)
 
+-- the file offset of byte o of unit a, 0 where that is no data unit
+abbrev pub fileOffset : Layout → Unit → ℕ → ℕ
+fileOffset y a o = pick (ltb (a .unit) (y .n)) (offsetOf y (a .group) (a .unit) o) 0
+
 unfoldable pub tracedOf : Layout → ℕ → Traced
 tracedOf y x =
     grant (byteRefusal y x)
@@ -39,6 +44,6 @@ tracedOf y x =
       unit = unitHere y x .unit;
       byte = offsetHere y x;
       is_data = isData y x;
-      offset = pick (isData y x) (offsetOf y (unitHere y x .group) (unitHere y x .unit) (offsetHere y x)) 0;
+      offset = fileOffset y (unitHere y x) (offsetHere y x);
     })
     (record { refusal = byteRefusal y x; group = 0; unit = 0; byte = 0; is_data = false; offset = 0 })

@@ -4,14 +4,14 @@ use Prim.Native.Nat.{ℕ, _*_, _/_, _%_, _≤_, _<_}
 use native.Mathlib.Nat.{mul-le-mul, mul-pos}
 use native.Mathlib.Omega.{arith}
 use lib.Dec.{ltb}
-use Rattle.lists.specs.Pick.{pick}
 use Rattle.numbers.specs.declared.Layout.{Layout}
 use Rattle.numbers.specs.Layouts.{Valid, rows, frames, allGroups, imageLength}
 use Rattle.place.specs.declared.Unit.{Unit}
 use Rattle.place.specs.Places.{unitOf}
-use Rattle.place.specs.Bytes.{offsetOf, targetHere, frameHere, offsetHere, unitHere}
+use Rattle.place.specs.Bytes.{targetHere, frameHere, offsetHere, unitHere}
 use Rattle.place.specs.ByteLaws.{target-here-lt, frame-here-lt, offset-here-lt, group-here-lt}
 use Rattle.layout.specs.declared.Traced.{Traced}
+use Rattle.layout.specs.Offsets.{fileOffset}
 
 -- the bytes of a target: some, and few enough to be counted in 64 bits
 pub record DriveFits (y : Layout) (l : ℕ) : Type 0 where
@@ -36,12 +36,9 @@ offset-fits y v g c hg hc =
     let unit : c ≤ 16 = omega arith in
     record { whole = whole; before = omega (arith, mul-le-mul whole hg); within = omega (arith, mul-le-mul (v .few-bytes) unit) }
 
--- the answer for byte o of unit a whose file offset is f, and that offset
+-- the answer for byte o of unit a whose file offset is f
 abbrev answered : Layout → Unit → ℕ → ℕ → Traced
 answered y a o f = record { refusal = 0; group = a .group; unit = a .unit; byte = o; is_data = ltb (a .unit) (y .n); offset = f }
-
-abbrev pub fileOffset : Layout → Unit → ℕ → ℕ
-fileOffset y a o = pick (ltb (a .unit) (y .n)) (offsetOf y (a .group) (a .unit) o) 0
 
 -- an image byte by the rows in hand
 module _ (y : Layout) (x l : ℕ) (is : l ≡ rows y) where

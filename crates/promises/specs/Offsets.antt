@@ -19,7 +19,7 @@ use Rattle.layout.specs.declared.Mapped.{Mapped}
 use Rattle.layout.specs.declared.Traced.{Traced}
 use Rattle.layout.specs.declared.Placed.{Placed}
 use Rattle.layout.specs.Places.{placeRefusal, placedOf}
-use Rattle.layout.specs.Offsets.{offsetRefusal, mappedOf, byteRefusal, tracedOf}
+use Rattle.layout.specs.Offsets.{offsetRefusal, mappedOf, byteRefusal, fileOffset, tracedOf}
 use Rattle.layout.specs.Asked.{offset-asked, byte-asked}
 use Rattle.survey.specs.Surveyed.{spot-plus}
 use Rattle.promises.specs.Refusals.{number-is}
@@ -31,15 +31,7 @@ module _ (y : Layout) where
   mapped x = record { refusal = 0; group = groupOf y x; unit = unitIn y x; byte = byteIn y x; image = imageByte y x }
 
   abbrev traced : Unit → ℕ → Traced
-  traced a o =
-      record {
-        refusal = 0;
-        group = a .group;
-        unit = a .unit;
-        byte = o;
-        is_data = ltb (a .unit) (y .n);
-        offset = pick (ltb (a .unit) (y .n)) (offsetOf y (a .group) (a .unit) o) 0;
-      }
+  traced a o = record { refusal = 0; group = a .group; unit = a .unit; byte = o; is_data = ltb (a .unit) (y .n); offset = fileOffset y a o }
 
   offset-accepted : (x : ℕ) → mappedOf y x .refusal ≡ 0 → offsetRefusal y x ≡ 0
   unfolding mappedOf
