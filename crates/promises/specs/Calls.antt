@@ -78,7 +78,7 @@ scribbles-are-any = scribble-any
 
 -- ---- what demand 3 says in a state, of any outcome that the promises allow there
 
-pub record Kept (y : Layout) (s : State) : Type 0 where
+pub record OutcomesRight (y : Layout) (s : State) : Type 0 where
   -- "each unit that 01 calls present holds what encoding the current file afresh would put there"
   pub present : (g o c : ℕ) → g < allGroups y → o < y .u → c < contents y → missing y (s .rec) g c ≡ false
       → stored y (s .rec) (s .img) g o c ≡ encoded y (s .file) g o c
@@ -103,8 +103,8 @@ unfolding lookScratch
 scratch-length y R img room group content =
     grant-either (lookRefusal y R (length img) room group content) _ (zeros room) (λ (l : List ℕ). length l ≡ room) (λ z. length-tabulate room _) (λ z. length-tabulate room _)
 
-kept : (y : Layout) (s : State) → Right y s → Kept y s
-kept y s r =
+outcomes-right : (y : Layout) (s : State) → Right y s → OutcomesRight y s
+outcomes-right y s r =
     record {
       present = r .present;
       read-shows = λ offset size n out p z. p .bytes ∙ r .shown offset size (sym (p .answer) ∙ z);
@@ -122,8 +122,8 @@ kept y s r =
 -- ---- demand 3: after any run of calls that keep their promises, from zeros and an empty list
 
 module _ (y : Layout) (valid : Valid y) (room : List ℕ) (three : length room ≡ 3) (es : List Event) (s : State) (p : Reaches y (start y room) es s) where
-  pub calls-keep : Kept y s
-  calls-keep = subst⁻¹ (Kept y) (reaches-run y es (start y room) s p) (kept y (run y (start y room) es) (demand-3 y valid room three es))
+  pub calls-right : OutcomesRight y s
+  calls-right = subst⁻¹ (OutcomesRight y) (reaches-run y es (start y room) s p) (outcomes-right y (run y (start y room) es) (demand-3 y valid room three es))
 
   -- "that file: zeros, with the accepted writes laid on in order"
   pub file-of-calls : s .file ≡ laidOn y (zeros (capacity y)) es

@@ -35,13 +35,13 @@ module _ (y : Layout) (image : List ℕ) (target frame : ℕ) where
     hex-line-refused never = p .line ∙ sym (C.refused-line y image target frame (length old) (λ z. never (p .answer ∙ z)))
 
     -- the number that the call answers is the lowest that applies
-    abbrev tests : List (Bool × ℕ)
-    tests =
+    abbrev hexTable : List (Bool × ℕ)
+    hexTable =
         (validb y, 1) ∷ (eqb (length image) (imageLength y), 2) ∷ (ltb target (y .p), 4) ∷ (ltb frame (frames y), 4) ∷ (eqb (length old) (11 + 2 * y .u), 5) ∷ []
 
-    pub hex-line-lowest : LowestThatApplies tests r
+    pub hex-line-lowest : LowestThatApplies hexTable r
     unfolding hexRefusal
-    hex-line-lowest = subst⁻¹ (LowestThatApplies tests) (p .answer) (refusal-lowest 1 tests (omega arith) refl)
+    hex-line-lowest = subst⁻¹ (LowestThatApplies hexTable) (p .answer) (refusal-lowest 1 hexTable (omega arith) refl)
 
   pub hex-line-tight : (old : List ℕ) (r r′ : ℕ) (new new′ : List ℕ) → HexLine y image target frame old r new
       → HexLine y image target frame old r′ new′

@@ -158,14 +158,14 @@ module _ (y : Layout) where
 -- ---- rebuild
 
 module _ (y : Layout) (missing : List ℕ) where
-  abbrev tests : ℕ → List (Bool × ℕ)
-  tests len = (validb y, 1) ∷ (eachBelow (contents y) missing, 4) ∷ (eqb len (contents y * y .u), 5) ∷ (leb (count (named missing) (contents y)) (y .k), 8) ∷ []
+  abbrev rebuildTable : ℕ → List (Bool × ℕ)
+  rebuildTable len = (validb y, 1) ∷ (eachBelow (contents y) missing, 4) ∷ (eqb len (contents y * y .u), 5) ∷ (leb (count (named missing) (contents y)) (y .k), 8) ∷ []
 
   -- the number that it answers is the lowest that applies
-  pub rebuild-lowest : (before : List ℕ) (r : ℕ) (after : List ℕ) → Rebuilding y missing before r after → LowestThatApplies (tests (length before)) r
+  pub rebuild-lowest : (before : List ℕ) (r : ℕ) (after : List ℕ) → Rebuilding y missing before r after → LowestThatApplies (rebuildTable (length before)) r
   unfolding rebuildRefusal
   rebuild-lowest before r after p =
-      subst⁻¹ (LowestThatApplies (tests (length before))) (p .answers) (refusal-lowest 1 (tests (length before)) (omega arith) refl)
+      subst⁻¹ (LowestThatApplies (rebuildTable (length before))) (p .answers) (refusal-lowest 1 (rebuildTable (length before)) (omega arith) refl)
 
   -- any two outcomes that the promise of rebuild allows are the same
   pub rebuild-tight : (before : List ℕ) (r r′ : ℕ) (after after′ : List ℕ) → Rebuilding y missing before r after → Rebuilding y missing before r′ after′

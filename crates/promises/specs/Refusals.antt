@@ -167,49 +167,60 @@ module _ (y : Layout) where
 
 -- ---- the pool: n is the number that a call answers
 
+module _ (y : Layout) (R : Record) where
+  -- what every call of the pool tests first, of an image of `len` bytes, and then: a range of `size` bytes; a look with a scratch of `room` bytes
+  abbrev poolTable : ℕ → List (Bool × ℕ) → List (Bool × ℕ)
+  poolTable len own = (validb y, 1) ∷ (eqb len (imageLength y), 2) ∷ (recordGood y R, 3) ∷ own
+
+  abbrev rangeTable : ℕ → ℕ → List (Bool × ℕ)
+  rangeTable offset size = (leb offset (capacity y), 4) ∷ (leb size (capacity y - offset), 4) ∷ []
+
+  abbrev lookTable : ℕ → ℕ → ℕ → List (Bool × ℕ)
+  lookTable room group content = (ltb group (allGroups y), 4) ∷ (ltb content (contents y), 4) ∷ (eqb room (y .u), 5) ∷ []
+
+  -- the second step of a look that answers a place: it is lent lengths alone
+  pub locate-lowest : (len room group content : ℕ) → LowestThatApplies (poolTable len (lookTable room group content)) (shownAt y R len room group content .refusal)
+  unfolding shownAt lookRefusal
+  locate-lowest len room group content =
+      lowest-of (poolTable len (lookTable room group content)) (number-is (λ (x : Shown). x .refusal) _ _ _ refl refl) (refusal-lowest 1 _ (omega arith) refl)
+
+  pub locate-refused : (len room group content : ℕ) → (shownAt y R len room group content .refusal ≡ 0 → ⊥)
+      → shownAt y R len room group content ≡ record { refusal = shownAt y R len room group content .refusal; missing = false; begins = 0; length = 0 }
+  unfolding shownAt
+  locate-refused len room group content =
+      refused-is (λ (x : Shown). x .refusal) (lookRefusal y R len room group content) _ (λ n. record { refusal = n; missing = false; begins = 0; length = 0 }) refl (λ m. refl)
+
 module _ (y : Layout) (R : Record) (img : List ℕ) where
-  -- what every call of the pool tests first, and then: a range of `size` bytes; a look with a scratch of `room` bytes
-  abbrev tests : List (Bool × ℕ) → List (Bool × ℕ)
-  tests own = (validb y, 1) ∷ (eqb (length img) (imageLength y), 2) ∷ (recordGood y R, 3) ∷ own
+  -- the same of the image that is lent
+  abbrev tableHere : List (Bool × ℕ) → List (Bool × ℕ)
+  tableHere = poolTable y R (length img)
 
-  abbrev range : ℕ → ℕ → List (Bool × ℕ)
-  range offset size = (leb offset (capacity y), 4) ∷ (leb size (capacity y - offset), 4) ∷ []
-
-  abbrev look : ℕ → ℕ → ℕ → List (Bool × ℕ)
-  look room group content = (ltb group (allGroups y), 4) ∷ (ltb content (contents y), 4) ∷ (eqb room (y .u), 5) ∷ []
-
-  pub read-lowest : (offset size n : ℕ) (out : List ℕ) → Reads y R img offset size n out → LowestThatApplies (tests (range offset size)) n
+  pub read-lowest : (offset size n : ℕ) (out : List ℕ) → Reads y R img offset size n out → LowestThatApplies (tableHere (rangeTable y R offset size)) n
   unfolding rangeRefusal
-  read-lowest offset size n out p = lowest-of (tests (range offset size)) (p .answer) (refusal-lowest 1 _ (omega arith) refl)
+  read-lowest offset size n out p = lowest-of (tableHere (rangeTable y R offset size)) (p .answer) (refusal-lowest 1 _ (omega arith) refl)
 
-  pub write-lowest : (offset : ℕ) (bytes : List ℕ) (n : ℕ) (img′ : List ℕ) → Writes y R img offset bytes n img′ → LowestThatApplies (tests (range offset (length bytes))) n
+  pub write-lowest : (offset : ℕ) (bytes : List ℕ) (n : ℕ) (img′ : List ℕ) → Writes y R img offset bytes n img′ → LowestThatApplies (tableHere (rangeTable y R offset (length bytes))) n
   unfolding rangeRefusal
-  write-lowest offset bytes n img′ p = lowest-of (tests (range offset (length bytes))) (p .answer) (refusal-lowest 1 _ (omega arith) refl)
+  write-lowest offset bytes n img′ p = lowest-of (tableHere (rangeTable y R offset (length bytes))) (p .answer) (refusal-lowest 1 _ (omega arith) refl)
 
   pub fail-lowest : (target n : ℕ) (R′ : Record) → Fails y R img target n R′
-      → LowestThatApplies (tests ((ltb target (y .p), 4) ∷ (not (failed R target), 6) ∷ (not (eqb (R .k) (y .k)), 7) ∷ [])) n
+      → LowestThatApplies (tableHere ((ltb target (y .p), 4) ∷ (not (failed R target), 6) ∷ (not (eqb (R .k) (y .k)), 7) ∷ [])) n
   unfolding failRefusal
   fail-lowest target n R′ p =
-      lowest-of (tests ((ltb target (y .p), 4) ∷ (not (failed R target), 6) ∷ (not (eqb (R .k) (y .k)), 7) ∷ [])) (p .answer) (refusal-lowest 1 _ (omega arith) refl)
+      lowest-of (tableHere ((ltb target (y .p), 4) ∷ (not (failed R target), 6) ∷ (not (eqb (R .k) (y .k)), 7) ∷ [])) (p .answer) (refusal-lowest 1 _ (omega arith) refl)
 
-  pub repair-lowest : (n count : ℕ) (R′ : Record) (img′ : List ℕ) → Repairs y R img n count R′ img′ → LowestThatApplies (tests []) n
+  pub repair-lowest : (n count : ℕ) (R′ : Record) (img′ : List ℕ) → Repairs y R img n count R′ img′ → LowestThatApplies (tableHere []) n
   unfolding repairRefusal
-  repair-lowest n count R′ img′ p = lowest-of (tests []) (p .answer) (refusal-lowest 1 _ (omega arith) refl)
+  repair-lowest n count R′ img′ p = lowest-of (tableHere []) (p .answer) (refusal-lowest 1 _ (omega arith) refl)
 
-  pub prepare-lowest : (room group content n : ℕ) (scratch : List ℕ) → Prepares y R img room group content n scratch → LowestThatApplies (tests (look room group content)) n
+  pub prepare-lowest : (room group content n : ℕ) (scratch : List ℕ) → Prepares y R img room group content n scratch → LowestThatApplies (tableHere (lookTable y R room group content)) n
   unfolding lookRefusal
-  prepare-lowest room group content n scratch p = lowest-of (tests (look room group content)) (p .answer) (refusal-lowest 1 _ (omega arith) refl)
+  prepare-lowest room group content n scratch p = lowest-of (tableHere (lookTable y R room group content)) (p .answer) (refusal-lowest 1 _ (omega arith) refl)
 
   pub show-lowest : (scratch : List ℕ) (group content n : ℕ) (shown : List ℕ) → Shows y R img scratch group content n shown
-      → LowestThatApplies (tests (look (length scratch) group content)) n
+      → LowestThatApplies (tableHere (lookTable y R (length scratch) group content)) n
   unfolding lookRefusal
-  show-lowest scratch group content n shown p = lowest-of (tests (look (length scratch) group content)) (p .answer) (refusal-lowest 1 _ (omega arith) refl)
-
-  -- the second step of a look that answers a place; it is lent lengths alone
-  pub locate-lowest : (room group content : ℕ) → LowestThatApplies (tests (look room group content)) (shownAt y R (length img) room group content .refusal)
-  unfolding shownAt lookRefusal
-  locate-lowest room group content =
-      lowest-of (tests (look room group content)) (number-is (λ (x : Shown). x .refusal) _ _ _ refl refl) (refusal-lowest 1 _ (omega arith) refl)
+  show-lowest scratch group content n shown p = lowest-of (tableHere (lookTable y R (length scratch) group content)) (p .answer) (refusal-lowest 1 _ (omega arith) refl)
 
   -- ---- what a refused call leaves
 
@@ -248,27 +259,21 @@ module _ (y : Layout) (R : Record) (img : List ℕ) where
   show-refused-empty scratch group content n shown p never =
       p .bytes ∙ grant-no (lookRefusal y R (length img) (length scratch) group content) _ [] (λ (z : _ ≡ 0). never (p .answer ∙ z))
 
-  pub locate-refused : (room group content : ℕ) → (shownAt y R (length img) room group content .refusal ≡ 0 → ⊥)
-      → shownAt y R (length img) room group content ≡ record { refusal = shownAt y R (length img) room group content .refusal; missing = false; begins = 0; length = 0 }
-  unfolding shownAt
-  locate-refused room group content =
-      refused-is (λ (x : Shown). x .refusal) (lookRefusal y R (length img) room group content) _ (λ n. record { refusal = n; missing = false; begins = 0; length = 0 }) refl (λ m. refl)
-
   -- ---- "a length of 0 at offset = capacity is accepted and does nothing"
 
   -- accepted: 4 does not apply, and what every call tests first decides alone
-  at-the-end : rangeRefusal y R (length img) (capacity y) 0 ≡ refusalBy (tests [])
+  at-the-end : rangeRefusal y R (length img) (capacity y) 0 ≡ refusalBy (tableHere [])
   unfolding rangeRefusal refusalBy _orElse_
   at-the-end =
       let from = le-leb (capacity y) (capacity y) (le-refl (capacity y)) in
       let size = le-leb 0 (capacity y - capacity y) (omega arith) in
-      λ i. refusalBy (tests ((from i, 4) ∷ (size i, 4) ∷ []))
+      λ i. refusalBy (tableHere ((from i, 4) ∷ (size i, 4) ∷ []))
 
-  pub empty-read-lowest : (n : ℕ) (out : List ℕ) → Reads y R img (capacity y) 0 n out → LowestThatApplies (tests []) n
-  empty-read-lowest n out p = lowest-of (tests []) (p .answer ∙ at-the-end) (refusal-lowest 1 _ (omega arith) refl)
+  pub empty-read-lowest : (n : ℕ) (out : List ℕ) → Reads y R img (capacity y) 0 n out → LowestThatApplies (tableHere []) n
+  empty-read-lowest n out p = lowest-of (tableHere []) (p .answer ∙ at-the-end) (refusal-lowest 1 _ (omega arith) refl)
 
-  pub empty-write-lowest : (n : ℕ) (img′ : List ℕ) → Writes y R img (capacity y) [] n img′ → LowestThatApplies (tests []) n
-  empty-write-lowest n img′ p = lowest-of (tests []) (p .answer ∙ at-the-end) (refusal-lowest 1 _ (omega arith) refl)
+  pub empty-write-lowest : (n : ℕ) (img′ : List ℕ) → Writes y R img (capacity y) [] n img′ → LowestThatApplies (tableHere []) n
+  empty-write-lowest n img′ p = lowest-of (tableHere []) (p .answer ∙ at-the-end) (refusal-lowest 1 _ (omega arith) refl)
 
   -- a write of no bytes changes nothing at any offset, nor is there a byte that a read of none could show
   pub empty-write-unchanged : (offset n : ℕ) (img′ : List ℕ) → Writes y R img offset [] n img′ → img′ ≡ img
