@@ -1,8 +1,7 @@
 -- Sums in the field: f 0 + f 1 + .. + f (n - 1), where + is exclusive or.
 use mathlib.Core.Path.{_≡_, refl, sym, ap, ap₂, _∙_}
-use Prim.Native.Nat.{ℕ, zero, suc, _+_, _<_}
+use Prim.Native.Nat.{ℕ, zero, suc, _<_}
 use native.Mathlib.Nat.{le-trans, le-refl, le-suc}
-use native.Mathlib.Numerals.{add-one}
 use lib.Dec.{lit<}
 use Rattle.field.specs.Byte.{_⊕_, mul}
 use Rattle.field.specs.Laws.{mul-zero}
@@ -44,8 +43,3 @@ pub sum-zero : (n : ℕ) (f : ℕ → ℕ) → ((j : ℕ) → f j ≡ 0) → sum
 unfolding sumTo
 sum-zero zero f e = refl
 sum-zero (suc n) f e = ap₂ _⊕_ (sum-zero n f e) (e n) ∙ ⊕-zero 0
-
--- one term more, as the code counts
-pub sum-next : (n : ℕ) (f : ℕ → ℕ) → sumTo (n + 1) f ≡ sumTo n f ⊕ f n
-unfolding sumTo
-sum-next n f = ap (λ (m : ℕ). sumTo m f) (add-one n)
