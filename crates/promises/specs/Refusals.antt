@@ -167,22 +167,23 @@ module _ (y : Layout) where
 
 -- ---- the pool: n is the number that a call answers
 
-module _ (y : Layout) (R : Record) where
-  -- what every call of the pool tests first, of an image of `len` bytes, and then: a range of `size` bytes; a look with a scratch of `room` bytes
-  abbrev poolTable : ℕ → List (Bool × ℕ) → List (Bool × ℕ)
-  poolTable len own = (validb y, 1) ∷ (eqb len (imageLength y), 2) ∷ (recordGood y R, 3) ∷ own
-
+-- what a range of `size` bytes is tested for, and a look with a scratch of `room` bytes; before them what every call tests, of an image of `len` bytes
+module _ (y : Layout) where
   abbrev rangeTable : ℕ → ℕ → List (Bool × ℕ)
   rangeTable offset size = (leb offset (capacity y), 4) ∷ (leb size (capacity y - offset), 4) ∷ []
 
   abbrev lookTable : ℕ → ℕ → ℕ → List (Bool × ℕ)
   lookTable room group content = (ltb group (allGroups y), 4) ∷ (ltb content (contents y), 4) ∷ (eqb room (y .u), 5) ∷ []
 
+module _ (y : Layout) (R : Record) where
+  abbrev poolTable : ℕ → List (Bool × ℕ) → List (Bool × ℕ)
+  poolTable len own = (validb y, 1) ∷ (eqb len (imageLength y), 2) ∷ (recordGood y R, 3) ∷ own
+
   -- the second step of a look that answers a place: it is lent lengths alone
-  pub locate-lowest : (len room group content : ℕ) → LowestThatApplies (poolTable len (lookTable room group content)) (shownAt y R len room group content .refusal)
+  pub locate-lowest : (len room group content : ℕ) → LowestThatApplies (poolTable len (lookTable y room group content)) (shownAt y R len room group content .refusal)
   unfolding shownAt lookRefusal
   locate-lowest len room group content =
-      lowest-of (poolTable len (lookTable room group content)) (number-is (λ (x : Shown). x .refusal) _ _ _ refl refl) (refusal-lowest 1 _ (omega arith) refl)
+      lowest-of (poolTable len (lookTable y room group content)) (number-is (λ (x : Shown). x .refusal) _ _ _ refl refl) (refusal-lowest 1 _ (omega arith) refl)
 
   pub locate-refused : (len room group content : ℕ) → (shownAt y R len room group content .refusal ≡ 0 → ⊥)
       → shownAt y R len room group content ≡ record { refusal = shownAt y R len room group content .refusal; missing = false; begins = 0; length = 0 }
@@ -195,13 +196,13 @@ module _ (y : Layout) (R : Record) (img : List ℕ) where
   abbrev tableHere : List (Bool × ℕ) → List (Bool × ℕ)
   tableHere = poolTable y R (length img)
 
-  pub read-lowest : (offset size n : ℕ) (out : List ℕ) → Reads y R img offset size n out → LowestThatApplies (tableHere (rangeTable y R offset size)) n
+  pub read-lowest : (offset size n : ℕ) (out : List ℕ) → Reads y R img offset size n out → LowestThatApplies (tableHere (rangeTable y offset size)) n
   unfolding rangeRefusal
-  read-lowest offset size n out p = lowest-of (tableHere (rangeTable y R offset size)) (p .answer) (refusal-lowest 1 _ (omega arith) refl)
+  read-lowest offset size n out p = lowest-of (tableHere (rangeTable y offset size)) (p .answer) (refusal-lowest 1 _ (omega arith) refl)
 
-  pub write-lowest : (offset : ℕ) (bytes : List ℕ) (n : ℕ) (img′ : List ℕ) → Writes y R img offset bytes n img′ → LowestThatApplies (tableHere (rangeTable y R offset (length bytes))) n
+  pub write-lowest : (offset : ℕ) (bytes : List ℕ) (n : ℕ) (img′ : List ℕ) → Writes y R img offset bytes n img′ → LowestThatApplies (tableHere (rangeTable y offset (length bytes))) n
   unfolding rangeRefusal
-  write-lowest offset bytes n img′ p = lowest-of (tableHere (rangeTable y R offset (length bytes))) (p .answer) (refusal-lowest 1 _ (omega arith) refl)
+  write-lowest offset bytes n img′ p = lowest-of (tableHere (rangeTable y offset (length bytes))) (p .answer) (refusal-lowest 1 _ (omega arith) refl)
 
   pub fail-lowest : (target n : ℕ) (R′ : Record) → Fails y R img target n R′
       → LowestThatApplies (tableHere ((ltb target (y .p), 4) ∷ (not (failed R target), 6) ∷ (not (eqb (R .k) (y .k)), 7) ∷ [])) n
@@ -213,14 +214,14 @@ module _ (y : Layout) (R : Record) (img : List ℕ) where
   unfolding repairRefusal
   repair-lowest n count R′ img′ p = lowest-of (tableHere []) (p .answer) (refusal-lowest 1 _ (omega arith) refl)
 
-  pub prepare-lowest : (room group content n : ℕ) (scratch : List ℕ) → Prepares y R img room group content n scratch → LowestThatApplies (tableHere (lookTable y R room group content)) n
+  pub prepare-lowest : (room group content n : ℕ) (scratch : List ℕ) → Prepares y R img room group content n scratch → LowestThatApplies (tableHere (lookTable y room group content)) n
   unfolding lookRefusal
-  prepare-lowest room group content n scratch p = lowest-of (tableHere (lookTable y R room group content)) (p .answer) (refusal-lowest 1 _ (omega arith) refl)
+  prepare-lowest room group content n scratch p = lowest-of (tableHere (lookTable y room group content)) (p .answer) (refusal-lowest 1 _ (omega arith) refl)
 
   pub show-lowest : (scratch : List ℕ) (group content n : ℕ) (shown : List ℕ) → Shows y R img scratch group content n shown
-      → LowestThatApplies (tableHere (lookTable y R (length scratch) group content)) n
+      → LowestThatApplies (tableHere (lookTable y (length scratch) group content)) n
   unfolding lookRefusal
-  show-lowest scratch group content n shown p = lowest-of (tableHere (lookTable y R (length scratch) group content)) (p .answer) (refusal-lowest 1 _ (omega arith) refl)
+  show-lowest scratch group content n shown p = lowest-of (tableHere (lookTable y (length scratch) group content)) (p .answer) (refusal-lowest 1 _ (omega arith) refl)
 
   -- ---- what a refused call leaves
 
