@@ -27,8 +27,8 @@ use Rattle.pool.specs.FailHolds.{entry-same, fail-listed}
 use Rattle.pool.specs.Holds.{solvable, content-rebuilds}
 
 module _ (y : Layout) (valid : Valid y) (R : Record) (g : ℕ) where
-  -- "One always exists for at most K failures": a content whose home under the first j entries is on the target of the next one, and j is below K,
-  -- moves to a spare of its group that "is no content's home and lies on none of the targets listed up to and including this one"
+  -- "One always exists for at most K failures": with j below K, a content whose home under the first j entries is on the target of the next entry moves
+  -- to a spare of its group that "is no content's home and lies on none of the targets listed up to and including this one"
   pub spare-exists : (j c : ℕ) → j < y .k → c < contents y → targetAt y g (home y R j g c) ≡ entry R j
       → (i : ℕ) × (i < y .k) × (home y R (suc j) g c ≡ contents y + i) × ((d : ℕ) → d < contents y → home y R j g d ≡ contents y + i → ⊥)
       × (listed (entry R) (suc j) (targetAt y g (contents y + i)) ≡ false)

@@ -17,13 +17,14 @@ use Rattle.homes.specs.Missing.{home, missing}
 use Rattle.homes.specs.MissingLaws.{home-lt}
 use Rattle.homes.specs.Standing.{HomesAre}
 use Rattle.homes.specs.StandingLaws.{homes-are}
+use Rattle.pool.specs.Holds.{solvable}
 use Rattle.plan.specs.declared.Plan.{Plan}
 use Rattle.plan.specs.Plans.{Planned}
 use Rattle.survey.specs.declared.Sites.{Sites}
 use Rattle.survey.specs.declared.Stand.{Stand}
 use Rattle.survey.specs.declared.Survey.{Survey}
 use Rattle.survey.specs.Starts.{Sited, StartsUnder, Stands}
-use Rattle.survey.specs.Surveyed.{Surveyed, Surveying, solvable}
+use Rattle.survey.specs.Surveyed.{Surveyed, Surveying}
 
 -- homes that were worked out are units of the group, and where they begin is where the contents do
 module _ (y : Layout) (v : Valid y) (R : Record) (g j : ℕ) (le : j ≤ y .k) (x : Sites) (sited : Sited y g x)
@@ -57,7 +58,7 @@ module _ (y : Layout) (v : Valid y) (R : Record) (good : Good y R) (g : ℕ) (la
   solvable-here =
       subst⁻¹ (λ (n : ℕ). Solvable n (last .plan .k) (flag (x .missing))) (w .n-is)
       (subst⁻¹ (λ (k : ℕ). Solvable (y .n) k (flag (x .missing))) (w .k-is)
-      (let s = solvable y v R good g in
+      (let s = solvable y R v good g in
       record {
         data-max = s .data-max;
         parity-max = s .parity-max;

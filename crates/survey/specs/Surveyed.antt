@@ -10,13 +10,14 @@ use Rattle.numbers.specs.Layouts.{Valid, contents, allGroups, imageLength}
 use Rattle.place.specs.declared.Unit.{Unit}
 use Rattle.place.specs.Bytes.{spotOf, spot, unitHere}
 use Rattle.place.specs.ByteLaws.{spot-in, unit-there}
-use Rattle.parity.specs.Group.{Solvable, rebuilt}
+use Rattle.parity.specs.Group.{rebuilt}
 use Rattle.parity.specs.Local.{rebuilt-cong}
 use Rattle.homes.specs.declared.Record.{Record}
 use Rattle.homes.specs.Records.{Good}
 use Rattle.homes.specs.Missing.{home, missing}
-use Rattle.homes.specs.MissingLaws.{home-lt, home-apart, few-missing}
+use Rattle.homes.specs.MissingLaws.{home-lt, home-apart}
 use Rattle.pool.specs.Contents.{stored, contentByte}
+use Rattle.pool.specs.Holds.{solvable}
 use Rattle.plan.specs.declared.Plan.{Plan}
 use Rattle.plan.specs.Plans.{atOf, missOf, Right, Fits, Apart, column, held}
 use Rattle.plan.specs.Same.{missing-same}
@@ -43,10 +44,6 @@ pub record Surveying (y : Layout) (w : Survey) : Type 0 where
 pub spot-plus : (y : Layout) (g u o : ℕ) → spot y g u 0 + o ≡ spot y g u o
 unfolding spotOf
 spot-plus y g u o = omega arith
-
-module _ (y : Layout) (v : Valid y) (R : Record) (good : Good y R) (g : ℕ) where
-  pub solvable : Solvable (y .n) (y .k) (missing y R g)
-  solvable = record { data-max = v .few-data; parity-max = v .few-parity; few = few-missing y v R g good }
 
 module _ (y : Layout) (v : Valid y) (R : Record) (good : Good y R) (j : ℕ) (le : j ≤ y .k) (g : ℕ) (hg : g < allGroups y) (P : Plan) (s : Surveyed y R j g P) where
   content-lt : (c : ℕ) → c < P .n + P .k → c < contents y
@@ -94,4 +91,4 @@ module _ (y : Layout) (v : Valid y) (R : Record) (good : Good y R) (g : ℕ) (P 
   held-is img o c h =
       (λ i. rebuilt (s .n-is i) (s .k-is i) (missOf P) (column P img o) c)
       ∙ missing-same (y .n) (y .k) (missOf P) (missing y R g) (s .flags-are) (column P img o) c h
-      ∙ rebuilt-cong (y .n) (y .k) (missing y R g) (solvable y v R good g) (column P img o) (stored y R img g o) (λ u b t. column-is img o u b) c h
+      ∙ rebuilt-cong (y .n) (y .k) (missing y R g) (solvable y R v good g) (column P img o) (stored y R img g o) (λ u b t. column-is img o u b) c h
