@@ -58,6 +58,14 @@ module _ (y : Layout) (valid : Valid y) (R : Record) (g : ℕ) where
       pub content-determined : (new : ℕ → ℕ) → Rebuilds (y .n) (y .k) (missing y R g) (stored y R img g o) new → (c : ℕ) → c < contents y → new c ≡ contentByte y R img g o c
       content-determined new r = rebuilds-once (y .n) (y .k) (missing y R g) (solvable y R valid (record-good y R good) g) (stored y R img g o) new (contentByte y R img g o) r content-agrees
 
+-- an accepted read shows these bytes, on any image
+pub read-shows-contents : (y : Layout) (R : Record) (img : List ℕ) (offset size n : ℕ) (out : List ℕ) → Reads y R img offset size n out → n ≡ 0 → (i : ℕ) → i < size
+    → at out i ≡ contentByte y R img (groupOf y (offset + i)) (byteIn y (offset + i)) (unitIn y (offset + i))
+unfolding readOut fileByte
+read-shows-contents y R img offset size n out p z i h =
+    ap (λ (l : List ℕ). at l i) (p .bytes ∙ grant-yes (rangeRefusal y R (length img) offset size) _ _ (sym (p .answer) ∙ z))
+    ∙ getD-tabulate size _ i 0 h
+
 -- "Failing a target writes entry k and raises k by one": so it counts as failed, as the targets before it do
 pub fail-lists : (y : Layout) (R : Record) (img : List ℕ) (target n : ℕ) (R′ : Record) → length (R .failed) ≡ 3 → Fails y R img target n R′ → n ≡ 0
     → (R′ .k ≡ suc (R .k)) × (failed R′ target ≡ true) × ((i : ℕ) → i < R .k → entry R′ i ≡ entry R i)
@@ -69,11 +77,3 @@ fail-lists y R img target n R′ three p z =
       ap (λ (S : Record). failed S target) (p .rec) ∙ fail-listed y R (length img) target three ok,
       (λ i h. ap (λ (S : Record). entry S i) grows ∙ entry-same y R target i h),
     )
-
--- an accepted read shows these bytes, on any image
-pub read-shows-contents : (y : Layout) (R : Record) (img : List ℕ) (offset size n : ℕ) (out : List ℕ) → Reads y R img offset size n out → n ≡ 0 → (i : ℕ) → i < size
-    → at out i ≡ contentByte y R img (groupOf y (offset + i)) (byteIn y (offset + i)) (unitIn y (offset + i))
-unfolding readOut fileByte
-read-shows-contents y R img offset size n out p z i h =
-    ap (λ (l : List ℕ). at l i) (p .bytes ∙ grant-yes (rangeRefusal y R (length img) offset size) _ _ (sym (p .answer) ∙ z))
-    ∙ getD-tabulate size _ i 0 h
