@@ -21,17 +21,6 @@ use Rattle.pool.specs.Scribbling.{scribbled}
 use Rattle.pool.specs.Holds.{Holds, home-spot-lt}
 
 module _ (y : Layout) (R : Record) where
-  -- every image of that length that differs on failed targets alone is such a scribbling
-  pub scribble-any : (img img′ : List ℕ) → length img′ ≡ length img
-      → ((x : ℕ) → x < length img → failed R (targetHere y x) ≡ false → at img′ x ≡ at img x) → img′ ≡ scribbled y R img (at img′)
-  unfolding scribbled
-  scribble-any img img′ len same =
-      tabulated (length img) _ img′ 0 len
-      (λ x b.
-      ⊎-elim (λ (t : failed R (targetHere y x) ≡ true). sym (pick-true (failed R (targetHere y x)) (at img′ x) (at img x) t))
-      (λ (t : failed R (targetHere y x) ≡ false). same x b t ∙ sym (pick-false (failed R (targetHere y x)) (at img′ x) (at img x) t))
-      (either-way (failed R (targetHere y x))))
-
   pub scribble-length : (img : List ℕ) (ink : ℕ → ℕ) → length (scribbled y R img ink) ≡ length img
   unfolding scribbled
   scribble-length img ink = length-tabulate (length img) _
@@ -57,3 +46,15 @@ module _ (y : Layout) (R : Record) where
           file-bytes = k .file-bytes;
           present = λ g o c hg ho hc m. scribble-stored img ink (k .image-length) g o c hg ho hc m ∙ k .present g o c hg ho hc m;
         }
+
+module _ (y : Layout) (R : Record) where
+  -- every image of that length that differs on failed targets alone is such a scribbling
+  pub scribble-any : (img img′ : List ℕ) → length img′ ≡ length img
+      → ((x : ℕ) → x < length img → failed R (targetHere y x) ≡ false → at img′ x ≡ at img x) → img′ ≡ scribbled y R img (at img′)
+  unfolding scribbled
+  scribble-any img img′ len same =
+      tabulated (length img) _ img′ 0 len
+      (λ x b.
+      ⊎-elim (λ (t : failed R (targetHere y x) ≡ true). sym (pick-true (failed R (targetHere y x)) (at img′ x) (at img x) t))
+      (λ (t : failed R (targetHere y x) ≡ false). same x b t ∙ sym (pick-false (failed R (targetHere y x)) (at img′ x) (at img x) t))
+      (either-way (failed R (targetHere y x))))

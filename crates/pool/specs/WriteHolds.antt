@@ -1,16 +1,16 @@
 -- After a write the image holds the file with the bytes laid on.
 use mathlib.Core.Path.{_≡_, sym, ap, _∙_, subst}
 use mathlib.Core.Logic.{⊎-elim}
-use mathlib.Core.Bool.{true, false, not}
-use mathlib.Core.List.{List, []}
+use mathlib.Core.Bool.{true, false}
+use mathlib.Core.List.{List}
 use Prim.Native.Nat.{ℕ, _-_, _≤_, _<_}
 use native.Mathlib.Omega.{arith}
 use borrow.Author.Tests.{ltb-true}
 use lib.Dec.{ltb}
 use lib.ListN.{length}
-use Rattle.lists.specs.Pick.{pick, both, both-off, pick-true, pick-false, either-way, below-or-not, equal-or-not}
-use Rattle.lists.specs.Part.{within, within-of, within-before, within-after}
-use Rattle.lists.specs.Search.{any, any-none, any-false}
+use Rattle.lists.specs.Pick.{pick, pick-true, pick-false, either-way, equal-or-not}
+use Rattle.lists.specs.Part.{within, within-of}
+use Rattle.lists.specs.Search.{any, any-none}
 use Rattle.lists.specs.Tabulate.{at, length-tabulate, getD-tabulate}
 use Rattle.lists.specs.Refusal.{grant-yes, grant-no}
 use Rattle.numbers.specs.declared.Layout.{Layout}
@@ -26,7 +26,7 @@ use Rattle.pool.specs.Refusals.{rangeRefusal}
 use Rattle.pool.specs.Writing.{named, touched, writes, laid, writtenImage, writeImage}
 use Rattle.pool.specs.Files.{written, encoded}
 use Rattle.pool.specs.Asked.{Sound, range-asked}
-use Rattle.pool.specs.StoringLaws.{storing-at, storing-length, storing-none}
+use Rattle.pool.specs.StoringLaws.{storing-at, storing-length}
 use Rattle.pool.specs.Holds.{Holds, data-holds}
 
 -- a refused write leaves the image
@@ -46,24 +46,6 @@ write-length y R img offset bytes =
     equal-or-not (rangeRefusal y R (length img) offset (length bytes)) 0
     (λ z. ap length (write-accepted y R img offset bytes z) ∙ storing-length y R (R .q) _ _ img)
     (λ z. ap length (write-refused y R img offset bytes z))
-
--- a write of no bytes leaves the image, accepted or refused
-pub write-none : (y : Layout) (R : Record) (img : List ℕ) (offset : ℕ) → writeImage y R img offset [] ≡ img
-unfolding writes touched
-write-none y R img offset =
-    equal-or-not (rangeRefusal y R (length img) offset 0) 0
-    (λ z. write-accepted y R img offset [] z ∙ storing-none y R (R .q) _ _ img (λ g o c. ap (both (not (missing y R g c))) (unwritten g o c) ∙ both-off (not (missing y R g c))))
-    (λ z. write-refused y R img offset [] z)
-  where
-    unnamed : (x : ℕ) → within offset 0 x ≡ false
-    unnamed x = below-or-not x offset (within-before offset 0 x) (λ (h : offset ≤ x). within-after offset 0 x (omega arith))
-
-    unwritten : (g o c : ℕ) → writes y offset 0 g o c ≡ false
-    unwritten g o c =
-        ⊎-elim
-        (λ (t : ltb c (y .n) ≡ true). pick-true (ltb c (y .n)) _ _ t ∙ unnamed (offsetOf y g c o))
-        (λ (t : ltb c (y .n) ≡ false). pick-false (ltb c (y .n)) _ _ t ∙ any-false (λ d. named y offset 0 g o d) (y .n) (λ d h. unnamed (offsetOf y g d o)))
-        (either-way (ltb c (y .n)))
 
 module _ (y : Layout) (R : Record) (img file : List ℕ) (k : Holds y R img file) (offset : ℕ) (bytes : List ℕ)
     (ok : (i : ℕ) → i < length bytes → at bytes i < 256) (z : rangeRefusal y R (length img) offset (length bytes) ≡ 0) where

@@ -40,7 +40,8 @@ use Rattle.pool.specs.Failing.{failRecord}
 use Rattle.pool.specs.Repairing.{repairRecord, repairCount}
 use Rattle.pool.specs.Looking.{lookScratch, lookShown}
 use Rattle.pool.specs.Calls.{Reads, Writes, Fails, Repairs, Prepares, Shows}
-use Rattle.pool.specs.WriteHolds.{write-refused, write-none}
+use Rattle.pool.specs.WriteHolds.{write-refused}
+use Rattle.pool.specs.Changes.{write-none}
 use Rattle.pool.specs.RepairHolds.{repair-refused}
 use Rattle.pool_look.specs.declared.Shown.{Shown}
 use Rattle.pool_look.specs.Shown.{shownAt}
@@ -168,6 +169,7 @@ module _ (y : Layout) where
 -- ---- the pool: n is the number that a call answers
 
 -- what a range of `size` bytes is tested for, and a look with a scratch of `room` bytes; before them what every call tests, of an image of `len` bytes
+-- (document 01's numbers once more beside pool's own tables, so that one which is changed there alone is refused here)
 module _ (y : Layout) where
   abbrev rangeTable : ℕ → ℕ → List (Bool × ℕ)
   rangeTable offset size = (leb offset (capacity y), 4) ∷ (leb size (capacity y - offset), 4) ∷ []
