@@ -1,5 +1,5 @@
 -- A list in which the places from a to e hold f, and the others what they held: what a loop of stores has done.
-use mathlib.Core.Path.{_≡_, refl, sym, ap, _∙_}
+use mathlib.Core.Path.{_≡_, refl, sym, ap, _∙_, subst}
 use mathlib.Core.List.{List}
 use Prim.Native.Nat.{ℕ, _+_, _<_, _≤_}
 use native.Mathlib.Omega.{arith}
@@ -42,3 +42,7 @@ span-join f g h a b e p q s t u v =
 
 pub span-cong : (f g : ℕ → ℕ) (a e : ℕ) {l m : List ℕ} → ((y : ℕ) → a ≤ y → y < e → f y ≡ g y) → Span f a e l m → Span g a e l m
 span-cong f g a e u s = record { len = s .len; done = λ y i j. s .done y i j ∙ u y i j; before = s .before; after = s .after }
+
+-- a span whose end is told otherwise
+pub span-to : {f : ℕ → ℕ} {a : ℕ} (e e′ : ℕ) {l m : List ℕ} → e ≡ e′ → Span f a e l m → Span f a e′ l m
+span-to {f} {a} e e′ {l} {m} q s = subst (λ (x : ℕ). Span f a x l m) q s
