@@ -6,7 +6,8 @@ use native.Mathlib.Omega.{arith}
 use lib.Dec.{ltb, eqb}
 use lib.ListN.{length, getD}
 use borrow.Author.Tests.{eqb-true, ltb-true}
-use Rattle.lists.specs.Tabulate.{tabulate, tabulate-ext, zeros}
+use Rattle.lists.specs.Span.{Span}
+use Rattle.lists.specs.Tabulate.{tabulated, tabulate-ext, zeros}
 use Rattle.lists.specs.Refusal.{refusal-lowest, grant-yes, grant-no}
 use Rattle.numbers.specs.declared.Layout.{Layout}
 use Rattle.numbers.specs.Layouts.{Valid, frames, imageLength}
@@ -14,7 +15,8 @@ use Rattle.numbers.specs.Refused.{validb, valid-of}
 use Rattle.place.specs.declared.Place.{Place}
 use Rattle.place.specs.Bytes.{spotOf}
 use Rattle.place.specs.ByteLaws.{spot-lt}
-use Rattle.hexline.specs.Hex.{lineChar}
+use Rattle.hex.specs.Hex.{lineChar}
+use Rattle.hex.specs.Runs.{lineFrom}
 use Rattle.hexline.specs.HexLine.{unitByte, hexRefusal, hexLine}
 
 -- what an accepted call knows
@@ -65,10 +67,13 @@ module _ (y : Layout) (image : List ℕ) (target frame : ℕ) where
   byte-is begins e o = ap (λ (x : ℕ). getD image x 0) (ap (λ (x : ℕ). x + o) e ∙ apart o)
 
   -- an accepted call's line
-  pub written-line : (n begins : ℕ) → hexRefusal y (length image) target frame n ≡ 0 → begins ≡ spotOf y here 0
-      → tabulate n (lineChar target frame (y .u) (λ o. getD image (begins + o) 0)) ≡ hexLine y image target frame n
+  pub written-line : (n begins : ℕ) (old new : List ℕ) → hexRefusal y (length image) target frame n ≡ 0 → begins ≡ spotOf y here 0 → length old ≡ n
+      → Span (lineFrom image begins (y .u) target frame 0) 0 (0 + (11 + 2 * y .u)) old new → new ≡ hexLine y image target frame n
   unfolding hexLine
-  written-line n begins z e =
-      tabulate-ext 0 n _ _
-      (λ i b. ap (λ (byte : ℕ → ℕ). lineChar target frame (y .u) byte i) (λ j o. byte-is begins e o j)
+  written-line n begins old new z e len s =
+      tabulated n _ new 0 (s .len ∙ len)
+      (λ i b.
+      s .done i (omega arith) (omega (arith, accepted-line y (length image) target frame n z .exact))
+      ∙ ap (lineChar target frame (y .u) (λ o. getD image (begins + o) 0)) (let q : i - 0 ≡ i = omega arith in q)
+      ∙ ap (λ (byte : ℕ → ℕ). lineChar target frame (y .u) byte i) (λ j o. byte-is begins e o j)
       ∙ sym (grant-yes (hexRefusal y (length image) target frame n) _ 0 z))

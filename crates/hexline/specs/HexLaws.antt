@@ -1,49 +1,29 @@
 -- Two lines are equal only where target, frame and bytes are: a reader can take a line back.
 use mathlib.Core.Path.{_≡_, sym, ap, _∙_, subst}
 use mathlib.Core.List.{List}
-use Prim.Native.Nat.{ℕ, zero, suc, _+_, _*_, _-_, _/_, _%_, _^_, _≤_, _<_}
+use Prim.Native.Nat.{ℕ, zero, suc, _+_, _*_, _-_, _/_, _%_, _^_, _<_}
 use native.Mathlib.Nat.{div-add-mod, div-one, div-div-eq-div-mul, pow-succ', mod-lt, zero-lt-suc}
 use native.Mathlib.Omega.{arith}
 use lib.ListN.{length, getD}
-use borrow.Author.Tests.{lt-ltb, le-ltb}
-use Rattle.lists.specs.Pick.{below-or-not}
-use Rattle.lists.specs.Digits.{div-below, div-of, mod-of}
+use Rattle.lists.specs.Digits.{div-below}
 use Rattle.lists.specs.Tabulate.{getD-tabulate}
 use Rattle.lists.specs.Refusal.{grant-yes}
 use Rattle.numbers.specs.declared.Layout.{Layout}
 use Rattle.numbers.specs.Layouts.{frames}
 use Rattle.numbers.specs.Shapes.{layout-products}
-use Rattle.hexline.specs.Hex.{hexDigit, digitAt, lineChar}
+use Rattle.hex.specs.Hex.{hexDigit, digitAt, lineChar}
 use Rattle.hexline.specs.HexLine.{unitByte, hexRefusal, hexLine}
-use Rattle.hexline.specs.HexChars.{char-target, char-frame, char-byte}
+use Rattle.hex.specs.HexChars.{char-target, char-frame}
+use Rattle.hex.specs.CharLaws.{char-digit}
+use Rattle.hex.specs.Digit.{digitValue}
+use Rattle.hex.specs.DigitLaws.{digit-value}
 use Rattle.hexline.specs.HexCall.{accepted-line}
 
 -- ---- digits
 
-hex-low : (x : ℕ) → x < 10 → hexDigit x ≡ 48 + x
-unfolding hexDigit
-hex-low x h = simp (lt-ltb x 10 h)
-
-hex-high : (x : ℕ) → 10 ≤ x → hexDigit x ≡ 87 + x
-unfolding hexDigit
-hex-high x h = simp (le-ltb x 10 h)
-
--- different numbers below 16 have different digits
+-- different numbers below 16 have different digits: a digit tells its number
 pub digit-apart : (x z : ℕ) → x < 16 → z < 16 → hexDigit x ≡ hexDigit z → x ≡ z
-digit-apart x z hx hz e =
-    below-or-not x 10
-    (λ (a : x < 10). below-or-not z 10 (λ (b : z < 10). omega (arith, e, hex-low x a, hex-low z b)) (λ (b : 10 ≤ z). omega (
-      arith,
-      e,
-      hex-low x a,
-      hex-high z b,
-    )))
-    (λ (a : 10 ≤ x). below-or-not z 10 (λ (b : z < 10). omega (arith, e, hex-high x a, hex-low z b)) (λ (b : 10 ≤ z). omega (
-      arith,
-      e,
-      hex-high x a,
-      hex-high z b,
-    )))
+digit-apart x z hx hz e = sym (digit-value x hx) ∙ ap digitValue e ∙ digit-value z hz
 
 -- equal digits at a place
 same-digit : (x z place : ℕ) → digitAt x place ≡ digitAt z place → x / 16 ^ place % 16 ≡ z / 16 ^ place % 16
@@ -53,9 +33,6 @@ same-digit x z place e =
 next-digit : (x place : ℕ) → x / 16 ^ suc place ≡ x / 16 / 16 ^ place
 next-digit x place = ap (λ (w : ℕ). x / w) (pow-succ' 16 place) ∙ sym (div-div-eq-div-mul x 16 (16 ^ place))
 
-first-digit : (x : ℕ) → x / 16 ^ 0 ≡ x
-first-digit x = div-one x
-
 -- numbers of n digits with the same digit at each place are equal
 pub digits-apart : (n x z : ℕ) → x < 16 ^ n → z < 16 ^ n → ((place : ℕ) → place < n → digitAt x place ≡ digitAt z place) → x ≡ z
 digits-apart zero x z hx hz e = omega (arith, hx, hz)
@@ -63,7 +40,7 @@ digits-apart (suc n) x z hx hz e =
     sym (div-add-mod x 16) ∙ (λ i. 16 * digits-apart n (x / 16) (z / 16) (fewer x hx) (fewer z hz) rest i + last i) ∙ div-add-mod z 16
   where
     last : x % 16 ≡ z % 16
-    last = ap (λ (w : ℕ). w % 16) (sym (first-digit x)) ∙ same-digit x z 0 (e 0 (omega arith)) ∙ ap (λ (w : ℕ). w % 16) (first-digit z)
+    last = ap (λ (w : ℕ). w % 16) (sym (div-one x)) ∙ same-digit x z 0 (e 0 (omega arith)) ∙ ap (λ (w : ℕ). w % 16) (div-one z)
 
     fewer : (w : ℕ) → w < 16 ^ suc n → w / 16 < 16 ^ n
     fewer w h = div-below w 16 (16 ^ n) (omega arith) (subst (λ (m : ℕ). w < m) (pow-succ' 16 n) h)
@@ -100,27 +77,10 @@ module _ (u target frame target′ frame′ : ℕ) (byte byte′ : ℕ → ℕ)
   -- digit `place` of byte o is character 10 + (2 o + (1 - place))
   byte-digit : (o place : ℕ) → o < u → place < 2 → digitAt (byte o) place ≡ digitAt (byte′ o) place
   byte-digit o place h k =
-      sym (at-byte target frame byte) ∙ same (10 + (2 * o + (1 - place))) (omega arith) ∙ at-byte target′ frame′ byte′
-    where
-      from-unit : 10 + (2 * o + (1 - place)) - 10 ≡ 2 * o + (1 - place)
-      from-unit = omega arith
-
-      low : 1 - place < 2
-      low = omega arith
-
-      which : (10 + (2 * o + (1 - place)) - 10) / 2 ≡ o
-      which = ap (λ (x : ℕ). x / 2) from-unit ∙ div-of 2 o low
-
-      back : 1 - (1 - place) ≡ place
-      back = omega arith
-
-      where-in : 1 - (10 + (2 * o + (1 - place)) - 10) % 2 ≡ place
-      where-in = ap (λ (x : ℕ). 1 - x % 2) from-unit ∙ ap (λ (x : ℕ). 1 - x) (mod-of 2 o low) ∙ back
-
-      at-byte : (t f : ℕ) (b : ℕ → ℕ) → lineChar t f u b (10 + (2 * o + (1 - place))) ≡ digitAt (b o) place
-      at-byte t f b =
-          char-byte t f u b (10 + (2 * o + (1 - place))) (omega arith) (omega arith)
-          ∙ (λ i. digitAt (b (which i)) (where-in i))
+      let e : 1 - (1 - place) ≡ place = omega arith in
+      subst (λ (j : ℕ). digitAt (byte o) j ≡ digitAt (byte′ o) j) e
+      (sym (char-digit target frame u byte o h (1 - place) (omega arith)) ∙ same (10 + (2 * o + (1 - place))) (omega arith)
+      ∙ char-digit target′ frame′ u byte′ o h (1 - place) (omega arith))
 
   pub told : target < 256 → target′ < 256 → frame < 16777216 → frame′ < 16777216
       → ((o : ℕ) → o < u → byte o < 256) → ((o : ℕ) → o < u → byte′ o < 256) → Told u target frame target′ frame′ byte byte′

@@ -10,7 +10,7 @@ use Rattle.numbers.specs.declared.Layout.{Layout}
 use Rattle.numbers.specs.Layouts.{frames, imageLength}
 use Rattle.numbers.specs.Refused.{validb}
 use Rattle.place.specs.Bytes.{spotOf}
-use Rattle.hexline.specs.Hex.{lineChar}
+use Rattle.hex.specs.Hex.{lineChar}
 
 -- byte o of the unit in a frame of a target
 unfoldable pub unitByte : Layout → List ℕ → ℕ → ℕ → ℕ → ℕ

@@ -1,5 +1,3 @@
-pub mod Hex
 pub mod HexLine
-pub mod HexChars
 pub mod HexCall
 pub mod HexLaws

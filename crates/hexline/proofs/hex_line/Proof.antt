@@ -1,5 +1,5 @@
 -- `hexline::hex_line` meets its contract. Refused, the line is zeros; accepted, what was tested is what the place and the line ask for.
-use mathlib.Core.Path.{_≡_, sym, _∙_}
+use mathlib.Core.Path.{_≡_, refl, sym, _∙_}
 use native.Mathlib.Omega.{arith}
 use lib.ListN.{length}
 use borrow.Author.Needs.{needs}
@@ -37,11 +37,11 @@ spot-of-requires : tie.Need-spot-of-requires
 spot-of-requires c κs =
     let a = shown (c .before) in (a .valid, c .shape-of .ensures, a .target-in, a .frame-in, omega (arith, a .valid .some-bytes))
 
-fill-line-requires : tie.Need-fill-line-requires
-fill-line-requires c κs =
+write-line-requires : tie.Need-write-line-requires
+write-line-requires c κs =
     let a = shown (c .before .before .before) in (
       unit-fits _ (c .before .before .before .before .before .before .before .args .image .now) _ _ _ _ a (c .before .spot-of .ensures .0),
-      a .valid .few-bytes,
+      omega (arith, a .exact),
     )
 
 same-length-2 : tie.Need-same-length-2
@@ -53,9 +53,9 @@ returns-2 c =
     let z = c .before .before .before .before .before .before .if1 .left in
     record {
       answer = sym z ∙ r;
-      line = c .before .before .fill-line .ensures ∙ written-line _ _ _ _ _ _ (sym r ∙ z) (c .before .before .before .before .spot-of .ensures .0);
+      line = written-line _ _ _ _ _ _ _ _ (sym r ∙ z) (c .before .before .before .before .spot-of .ensures .0) refl (c .before .before .write-line .ensures);
     }
 
 pub hex-line-spec : {M : Type 1} → statement M
 hex-line-spec =
-    tie.close (tie.spec line-refusal-requires clear-requires same-length returns shape-of-requires spot-of-requires fill-line-requires same-length-2 returns-2)
+    tie.close (tie.spec line-refusal-requires clear-requires same-length returns shape-of-requires spot-of-requires write-line-requires same-length-2 returns-2)

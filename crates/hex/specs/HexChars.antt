@@ -3,7 +3,7 @@ use mathlib.Core.Path.{_≡_}
 use Prim.Native.Nat.{ℕ, _+_, _*_, _-_, _/_, _%_, _≤_, _<_}
 use native.Mathlib.Omega.{arith}
 use borrow.Author.Tests.{lt-ltb, le-ltb, eq-eqb, ne-eqb}
-use Rattle.hexline.specs.Hex.{digitAt, lineChar}
+use Rattle.hex.specs.Hex.{digitAt, lineChar}
 
 module _ (target frame u : ℕ) (byte : ℕ → ℕ) where
   pub char-target : (i : ℕ) → i < 2 → lineChar target frame u byte i ≡ digitAt target (1 - i)

@@ -1,0 +1,9 @@
+pub mod Hex
+pub mod Digit
+pub mod Line
+pub mod Runs
+pub mod HexChars
+pub mod CharLaws
+pub mod DigitLaws
+pub mod LineLaws
+pub mod RunLaws
