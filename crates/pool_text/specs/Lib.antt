@@ -1,0 +1,11 @@
+pub mod Text
+pub mod Reading
+pub mod TextCalls
+pub mod Places
+pub mod Here
+pub mod RoundTrip
+pub mod FrameLines
+pub mod WrongLines
+pub mod WriteLoop
+pub mod ReadLoop
+pub mod CallLaws
