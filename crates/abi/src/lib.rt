@@ -19,6 +19,7 @@ use place::Unit;
 use pool_fail::Failed;
 use pool_look::Shown;
 use pool_repair::Repaired;
+use pool_text::TextRead;
 ghost use mathlib.Core.Path.{_≡_};
 ghost use lib.ListN.{length};
 ghost use Rattle.layout.specs.Measure.{measuredOf};
@@ -31,6 +32,7 @@ ghost use Rattle.group.specs.Rebuild.{Rebuilding};
 ghost use Rattle.pool.specs.Calls.{Fails, Reads, Writes, Repairs, Prepares};
 ghost use Rattle.entries.specs.Promise.{Lookup, Insert, Delete, Listing};
 ghost use Rattle.hexline.specs.HexLine.{HexLine};
+ghost use Rattle.pool_text.specs.TextCalls.{WritesText, ReadsText};
 ghost use Rattle.abi.specs.Walked.{walkedOf};
 ghost use Rattle.abi.specs.ShowsAt.{ShowsAt};
 
@@ -256,4 +258,18 @@ pub extern "C" fn splicebell_hex_line(
     ensures { λ r. ⌜ HexLine y (now (image .entry)) target frame (now (line .entry)) r (now (line .exit)) ⌝ }
 {
     hexline::hex_line(y, image, target, frame, line)
+}
+
+#[no_mangle]
+pub extern "C" fn splicebell_write_text(y: Layout, image: &[u8], text: &mut [u8]) -> u64
+    ensures { λ r. ⌜ WritesText y (now (image .entry)) (now (text .entry)) r (now (text .exit)) ⌝ }
+{
+    pool_text::write_text(y, image, text)
+}
+
+#[no_mangle]
+pub extern "C" fn splicebell_read_text(y: Layout, text: &[u8], image: &mut [u8]) -> TextRead
+    ensures { λ r. ⌜ ReadsText y (now (image .entry)) (now (text .entry)) (r .refusal) (r .line) (now (image .exit)) ⌝ }
+{
+    pool_text::read_text(y, text, image)
 }

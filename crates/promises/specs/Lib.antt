@@ -12,4 +12,6 @@ pub mod Refusals
 pub mod Tight
 pub mod Catalogue
 pub mod HexLine
+pub mod PoolText
 pub mod Examples
+pub mod TextExamples

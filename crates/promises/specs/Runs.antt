@@ -17,7 +17,7 @@ use Rattle.pool.specs.Files.{written}
 use Rattle.pool.specs.Scribbling.{scribbled}
 
 -- an event: a call with any arguments (the bytes of a write are bytes, the buffer of a read and the scratch of a look have any length), or others
--- scribbling: `ink x` is what they would put at image byte x
+-- scribbling: `ink x` is what they would put at image byte x. No event fills an image from a text (`PoolText`)
 pub data Event : Type 0 where
   write : (offset : ℕ) (bytes : List ℕ) → ((i : ℕ) → i < length bytes → at bytes i < 256) → Event
   fail : (target : ℕ) → Event

@@ -1,5 +1,6 @@
 -- "For each, show that any two outcomes its promise allows are the same." A promise is an equation with a function of the inputs; the name
--- before each statement is the call's. Encode and rebuild, the catalogue and the hex line have theirs in `Parity`, `Catalogue` and `HexLine`.
+-- before each statement is the call's. Encode and rebuild, the catalogue, the hex line and a pool as text have theirs in `Parity`, `Catalogue`,
+-- `HexLine` and `PoolText`.
 use mathlib.Core.Path.{_≡_, sym, _∙_}
 use mathlib.Core.List.{List}
 use Prim.Native.Nat.{ℕ}
