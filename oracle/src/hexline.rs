@@ -6,6 +6,12 @@
 use crate::layout::Layout;
 use crate::place::begins;
 
+/// The line of a frame that holds `unit`.
+pub fn line_of(target: u64, frame: u64, unit: &[u8]) -> String {
+    let digits: String = unit.iter().map(|byte| format!("{byte:02x}")).collect();
+    format!("{target:02x} {frame:06x} {digits}\n")
+}
+
 fn hex_refusal(layout: &Layout, image: &[u8], target: u64, frame: u64, line: &[u8]) -> u64 {
     let (refusal, numbers) = layout.numbers();
     if refusal != 0 {
@@ -31,8 +37,6 @@ pub fn hex_line(layout: &Layout, image: &[u8], target: u64, frame: u64, line: &m
     }
     let at = begins(layout, frame, target) as usize;
     let unit = &image[at..at + layout.u as usize];
-    let digits: String = unit.iter().map(|byte| format!("{byte:02x}")).collect();
-    let text = format!("{target:02x} {frame:06x} {digits}\n");
-    line.copy_from_slice(text.as_bytes());
+    line.copy_from_slice(line_of(target, frame, unit).as_bytes());
     0
 }

@@ -1,6 +1,7 @@
-//! Splicebell's independent second program: document 01 rendered plainly, one
-//! module for each of its sections, with no thought of speed. It shares no
-//! code with the Rattle crates.
+//! Splicebell's independent second program: document 01, and the orders of
+//! document 02 that have landed, rendered plainly, one module for each section
+//! or order, with no thought of speed. It shares no code with the Rattle
+//! crates.
 #![forbid(unsafe_code)]
 
 pub mod catalogue;
@@ -12,5 +13,6 @@ pub mod layout;
 pub mod permutation;
 pub mod place;
 pub mod pool;
+pub mod pool_text;
 pub mod programs;
 pub mod selfcheck;

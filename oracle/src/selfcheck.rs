@@ -7,12 +7,13 @@ use crate::layout::{layout, range_refusal, Layout};
 use crate::permutation::{advance, permutation, start};
 use crate::place::{file_byte, image_byte, place};
 use crate::pool::{fail, homes, read, repair, unit_targets, write, Record};
+use crate::pool_text::{read_text, write_text};
 
 /// One example: the words of document 01 and whether this library agrees.
 pub type Check = (&'static str, fn() -> bool);
 
 /// All of them.
-pub const CHECKS: [Check; 18] = [
+pub const CHECKS: [Check; 19] = [
     ("N=4 K=2 P=20: W=8, B=40, L=2, C=5", wide_layout),
     ("N=1 K=0 P=1: L=1, C=1", least_layout),
     ("N=16 K=3: P=22 accepted, P=21 refused 1", tight_layout),
@@ -39,6 +40,10 @@ pub const CHECKS: [Check; 18] = [
         spare_choices,
     ),
     ("the three lines of the pool that holds 41 42", three_lines),
+    (
+        "the whole pool in order is those lines, and back",
+        lines_and_back,
+    ),
     (
         "dividing by the spares too puts offset 9 on group 0, unit 2",
         slip,
@@ -177,6 +182,16 @@ fn three_lines() -> bool {
         let refusal = hex_line(&shape, &image, target, 0, &mut line);
         refusal == 0 && line == wanted[target as usize].as_bytes()
     })
+}
+
+fn lines_and_back() -> bool {
+    let shape = layout(1, 1, 3, 2, 1, 0);
+    let lines = b"00 000000 0000\n01 000000 4142\n02 000000 4142\n";
+    let (mut image, mut text) = ([7; 6], [1; 45]);
+    read_text(&shape, lines, &mut image) == (0, 0)
+        && image == [0, 0, 0x41, 0x42, 0x41, 0x42]
+        && write_text(&shape, &image, &mut text) == 0
+        && text == *lines
 }
 
 fn slip() -> bool {
