@@ -2,8 +2,9 @@
  * Splicebell: a proved storage pool for rows of bag-drop kiosks, called from C.
  *
  * Every call takes any numbers and any lengths, tests everything itself and answers the lowest refusal
- * number that applies; 0 is accepted. After a refusal an output buffer (read, listing, prepare, hex line)
- * is all zeros, returned numbers are 0 unless stated, and nothing else that was lent has changed.
+ * number that applies; 0 is accepted. After a refusal an output buffer (read, listing, prepare, hex line,
+ * a pool's text, an image filled from a text) is all zeros, returned numbers are 0 unless stated, and
+ * nothing else that was lent has changed.
  *
  * What a caller owes, since C cannot be asked: a pointer with a length leads to that many elements, aligned
  * for their type, also where the length is 0 (not NULL); a buffer that a call may change overlaps no other
@@ -29,13 +30,14 @@ enum splicebell_refusal {
     SPLICEBELL_BAD_IMAGE_LENGTH = 2,   /* the image is not of its exact length */
     SPLICEBELL_BAD_RECORD = 3,         /* the failure record is bad */
     SPLICEBELL_OUTSIDE = 4,            /* tile, group, unit, frame, target, offset or range outside */
-    SPLICEBELL_BAD_BUFFER_LENGTH = 5,  /* a unit, group, scratch or line buffer not of its exact length */
+    SPLICEBELL_BAD_BUFFER_LENGTH = 5,  /* a unit, group, scratch, line or text buffer of a wrong length */
     SPLICEBELL_ALREADY_FAILED = 6,     /* the target has failed already */
     SPLICEBELL_DUD = 7,                /* K targets have failed already */
     SPLICEBELL_TOO_MANY_MISSING = 8,   /* more than K units named missing */
     SPLICEBELL_BAD_CATALOGUE = 9,      /* count above the slice, or keys not strictly rising */
     SPLICEBELL_CATALOGUE_FULL = 10,    /* no free slot, and the key is new */
-    SPLICEBELL_NO_SUCH_RECORD = 11     /* no record of that key, or none that matches in all three */
+    SPLICEBELL_NO_SUCH_RECORD = 11,    /* no record of that key, or none that matches in all three */
+    SPLICEBELL_WRONG_LINE = 12         /* a text that is not the hex lines of a pool of this layout */
 };
 
 /* N data, K parity and K spare units a group, P targets, U bytes a unit, T tiles, the permutations' cookie. */
@@ -140,6 +142,11 @@ typedef struct splicebell_page {
     uint64_t next;
 } splicebell_page;
 
+/* Where the refusal is 12, line is the first wrong line, counted from 1; else 0. */
+typedef struct splicebell_text_read {
+    uint64_t refusal, line;
+} splicebell_text_read;
+
 /* ---- layout numbers, permutation, places, offsets, walk: nothing is lent */
 
 /* All numbers that follow from a layout.
@@ -242,12 +249,24 @@ splicebell_changed splicebell_delete(splicebell_entry *slots, size_t slot_count,
 splicebell_page splicebell_listing(const splicebell_entry *slots, size_t slot_count, size_t n,
                                    splicebell_key key, uint64_t *out, size_t out_len);
 
-/* ---- the hex line */
+/* ---- the hex line, and a whole pool as text */
 
 /* Target, frame and the frame's bytes in hex, 11+2U bytes with the newline. The image is only read.
  * Refusals: 1, 2, 4 (target or frame), 5 (line). Refused: the line is all zeros. */
 uint64_t splicebell_hex_line(splicebell_layout y, const uint8_t *image, size_t image_len, uint64_t target,
                              uint64_t frame, uint8_t *line, size_t line_len);
+
+/* The hex lines of all frames, targets rising and frames rising within each: P*L*T*(11+2U) bytes, nothing
+ * between or after them. The image is only read.
+ * Refusals: 1, 2, 5 (text). Refused: the text is all zeros. */
+uint64_t splicebell_write_text(splicebell_layout y, const uint8_t *image, size_t image_len, uint8_t *text,
+                               size_t text_len);
+
+/* Fills the image from what write_text makes for some image, and from nothing else. A text that ends early
+ * is wrong at the line that is cut or missing, one that goes on at line P*L*T+1. The text is only read.
+ * Refusals: 1, 2, 12 (with the first wrong line). Refused: the image is all zeros, whatever its length. */
+splicebell_text_read splicebell_read_text(splicebell_layout y, const uint8_t *text, size_t text_len,
+                                          uint8_t *image, size_t image_len);
 
 #ifdef __cplusplus
 }

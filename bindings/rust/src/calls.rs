@@ -145,3 +145,13 @@ pub fn hex_line(
     let (into, room) = (line.as_mut_ptr(), line.len());
     unsafe { splicebell_hex_line(y, image.as_ptr(), image.len(), target, frame, into, room) }
 }
+
+pub fn write_text(y: splicebell_layout, image: &[u8], text: &mut [u8]) -> u64 {
+    let (into, room) = (text.as_mut_ptr(), text.len());
+    unsafe { splicebell_write_text(y, image.as_ptr(), image.len(), into, room) }
+}
+
+pub fn read_text(y: splicebell_layout, text: &[u8], image: &mut [u8]) -> splicebell_text_read {
+    let (into, room) = (image.as_mut_ptr(), image.len());
+    unsafe { splicebell_read_text(y, text.as_ptr(), text.len(), into, room) }
+}

@@ -1,6 +1,6 @@
 use crate::calls;
 use crate::raw;
-use crate::refusal::{answered, Result};
+use crate::refusal::{answered, text_answered, Result, TextRefusal};
 
 /// The six numbers of a layout. Any values may stand here; a call refuses those outside the bounds.
 ///
@@ -220,6 +220,38 @@ impl Layout {
     /// Fills the missing units of a group's (N+K)·U bytes from the N lowest others.
     pub fn rebuild(&self, missing: &[u64], group: &mut [u8]) -> Result<()> {
         answered(calls::rebuild(self.to_raw(), missing, group), ())
+    }
+
+    /// P·L·T·(11+2U): bytes of the text that [`Pool::write_text`](crate::Pool::write_text) makes.
+    pub fn text_length(&self) -> Result<u64> {
+        let frames = self.measure()?.frames;
+        Ok(self.p * frames * (11 + 2 * self.u))
+    }
+
+    /// Fills an image from the text that [`Pool::write_text`](crate::Pool::write_text) makes of some image of
+    /// this layout, and from no other text. Refused: `image` is all zeros, whatever its length, and the answer
+    /// tells the first wrong line.
+    ///
+    /// ```
+    /// use splicebell::{Layout, Pool};
+    ///
+    /// let layout = Layout { n: 1, k: 1, p: 3, u: 2, t: 1, cookie: 0 };
+    /// let mailed = b"00 000000 0000\n01 000000 4142\n02 000000 4142\n";
+    /// let mut image = [0; 6];
+    /// layout.read_text(mailed, &mut image)?;
+    /// let mut file = [0; 2];
+    /// Pool::new(layout, &mut image).read(0, &mut file)?;
+    /// assert_eq!(file, [0x41, 0x42]);
+    ///
+    /// let cut = &mailed[..40];
+    /// assert_eq!(layout.read_text(cut, &mut image).unwrap_err().line, Some(3));
+    /// assert_eq!(image, [0; 6]);
+    /// # Ok::<(), splicebell::Refusal>(())
+    /// ```
+    pub fn read_text(&self, text: &[u8], image: &mut [u8]) -> std::result::Result<(), TextRefusal> {
+        let raw::splicebell_text_read { refusal, line } =
+            calls::read_text(self.to_raw(), text, image);
+        text_answered(refusal, line)
     }
 
     pub(crate) fn to_raw(self) -> raw::splicebell_layout {

@@ -161,6 +161,25 @@ impl<'a> Pool<'a> {
         answered(calls::hex_line(self.layout.to_raw(), self.image, target, frame, line), ())
     }
 
+    /// Writes the hex lines of all frames, targets rising and frames rising within each, as a text of
+    /// [`Layout::text_length`] bytes; [`Layout::read_text`] takes it back. Refused: `text` is all zeros.
+    ///
+    /// ```
+    /// use splicebell::{Layout, Pool};
+    ///
+    /// let layout = Layout { n: 1, k: 1, p: 3, u: 2, t: 1, cookie: 0 };
+    /// let mut image = [0; 6];
+    /// let mut pool = Pool::new(layout, &mut image);
+    /// pool.write(0, &[0x41, 0x42])?;
+    /// let mut text = vec![0; layout.text_length()? as usize];
+    /// pool.write_text(&mut text)?;
+    /// assert_eq!(text, b"00 000000 0000\n01 000000 4142\n02 000000 4142\n");
+    /// # Ok::<(), splicebell::Refusal>(())
+    /// ```
+    pub fn write_text(&self, text: &mut [u8]) -> Result<()> {
+        answered(calls::write_text(self.layout.to_raw(), self.image, text), ())
+    }
+
     fn to_raw(&self) -> (raw::splicebell_layout, raw::splicebell_record) {
         (self.layout.to_raw(), self.record.to_raw())
     }

@@ -173,6 +173,13 @@ pub struct splicebell_page {
     pub next: u64,
 }
 
+#[repr(C)]
+#[derive(Clone, Copy, Debug, Default, PartialEq, Eq)]
+pub struct splicebell_text_read {
+    pub refusal: u64,
+    pub line: u64,
+}
+
 extern "C" {
     pub fn splicebell_measure(y: splicebell_layout) -> splicebell_measured;
     pub fn splicebell_tile_permutation(y: splicebell_layout, tile: u64) -> splicebell_entries;
@@ -276,4 +283,18 @@ extern "C" {
         line: *mut u8,
         line_len: usize,
     ) -> u64;
+    pub fn splicebell_write_text(
+        y: splicebell_layout,
+        image: *const u8,
+        image_len: usize,
+        text: *mut u8,
+        text_len: usize,
+    ) -> u64;
+    pub fn splicebell_read_text(
+        y: splicebell_layout,
+        text: *const u8,
+        text_len: usize,
+        image: *mut u8,
+        image_len: usize,
+    ) -> splicebell_text_read;
 }

@@ -22,7 +22,7 @@ pub enum Refusal {
     BadRecord = 3,
     /// 4: tile, group, unit, frame, target, offset or range outside.
     Outside = 4,
-    /// 5: a unit, group, scratch or line buffer not of its exact length.
+    /// 5: a unit, group, scratch, line or text buffer not of its exact length.
     BadBufferLength = 5,
     /// 6: target already failed.
     AlreadyFailed = 6,
@@ -36,6 +36,8 @@ pub enum Refusal {
     CatalogueFull = 10,
     /// 11: no such record.
     NoSuchRecord = 11,
+    /// 12: a text that is not the hex lines of a pool of this layout. A [`TextRefusal`] tells the line.
+    WrongLine = 12,
 }
 
 /// What a call answers: its value, or why it was refused.
@@ -43,7 +45,7 @@ pub type Result<T> = std::result::Result<T, Refusal>;
 
 impl Refusal {
     /// Every refusal, in the order of its number.
-    pub const ALL: [Refusal; 11] = [
+    pub const ALL: [Refusal; 12] = [
         Refusal::BadLayout,
         Refusal::BadImageLength,
         Refusal::BadRecord,
@@ -55,14 +57,15 @@ impl Refusal {
         Refusal::BadCatalogue,
         Refusal::CatalogueFull,
         Refusal::NoSuchRecord,
+        Refusal::WrongLine,
     ];
 
-    /// The number of this refusal, 1 to 11.
+    /// The number of this refusal, 1 to 12.
     pub fn number(self) -> u64 {
         self as u64
     }
 
-    /// The refusal of a number; none for 0, which means accepted, and for numbers above 11.
+    /// The refusal of a number; none for 0, which means accepted, and for numbers above 12.
     pub fn from_number(number: u64) -> Option<Refusal> {
         Refusal::ALL.into_iter().find(|refusal| refusal.number() == number)
     }
@@ -86,6 +89,7 @@ impl Refusal {
             }
             Refusal::CatalogueFull => "catalogue full and the key is new",
             Refusal::NoSuchRecord => "no such record",
+            Refusal::WrongLine => "a text that is not the hex lines of a pool of this layout",
         }
     }
 }
@@ -97,6 +101,53 @@ impl fmt::Display for Refusal {
 }
 
 impl Error for Refusal {}
+
+/// Why a text was not read into an image, and which line is to blame.
+///
+/// `?` makes a [`Refusal`] of it where no more is wanted.
+///
+/// ```
+/// use splicebell::{Layout, Refusal};
+///
+/// let layout = Layout { n: 1, k: 1, p: 3, u: 2, t: 1, cookie: 0 };
+/// let upper_case = b"00 000000 0000\n01 000000 414A\n02 000000 414a\n";
+/// let why = layout.read_text(upper_case, &mut [0; 6]).unwrap_err();
+/// assert_eq!((why.refusal, why.line), (Refusal::WrongLine, Some(2)));
+/// assert_eq!(why.to_string(), "line 2: a text that is not the hex lines of a pool of this layout");
+/// ```
+#[derive(Clone, Copy, Debug, PartialEq, Eq, Hash)]
+pub struct TextRefusal {
+    /// Why the text was not read.
+    pub refusal: Refusal,
+    /// The first wrong line, counted from 1; none where the text was not looked at.
+    pub line: Option<u64>,
+}
+
+impl fmt::Display for TextRefusal {
+    fn fmt(&self, f: &mut fmt::Formatter<'_>) -> fmt::Result {
+        match self.line {
+            Some(line) => write!(f, "line {line}: {}", self.refusal),
+            None => self.refusal.fmt(f),
+        }
+    }
+}
+
+impl Error for TextRefusal {}
+
+impl From<TextRefusal> for Refusal {
+    fn from(why: TextRefusal) -> Refusal {
+        why.refusal
+    }
+}
+
+/// Whether a text was read, by the library's two numbers.
+pub(crate) fn text_answered(number: u64, line: u64) -> std::result::Result<(), TextRefusal> {
+    let told = |refusal| {
+        let line = (refusal == Refusal::WrongLine).then_some(line);
+        TextRefusal { refusal, line }
+    };
+    answered(number, ()).map_err(told)
+}
 
 /// The value, if the library's number says accepted.
 ///
@@ -118,8 +169,8 @@ pub(crate) fn answered<T>(number: u64, value: T) -> Result<T> {
 #[cfg(test)]
 mod tests {
     #[test]
-    #[should_panic(expected = "the library answered 12")]
+    #[should_panic(expected = "the library answered 13")]
     fn a_number_outside_the_table_stops_the_program() {
-        let _ = super::answered(12, ());
+        let _ = super::answered(13, ());
     }
 }

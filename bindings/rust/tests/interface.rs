@@ -1,6 +1,7 @@
 //! The safe interface on a small pool and a small catalogue.
 use splicebell::{
-    Catalogue, Cursor, Entry, Key, Layout, Mapped, Page, Pool, Record, Refusal, Traced, Unit,
+    Catalogue, Cursor, Entry, Key, Layout, Mapped, Page, Pool, Record, Refusal, TextRefusal,
+    Traced, Unit,
 };
 
 /// Two data, two parity and two spare units a group over seven targets.
@@ -132,6 +133,9 @@ fn refused_calls_leave_zeros_in_outputs_and_the_rest_alone() {
     assert_eq!(pool.hex_line(0, 0, &mut out), Err(Refusal::BadBufferLength));
     assert_eq!(out, [0; 5]);
     out.fill(8);
+    assert_eq!(pool.write_text(&mut out), Err(Refusal::BadBufferLength));
+    assert_eq!(out, [0; 5]);
+    out.fill(8);
     assert_eq!(pool.look(0, 0, &mut out), Err(Refusal::BadRecord));
     assert_eq!(out, [0; 5]);
     let record = pool.record();
@@ -144,6 +148,66 @@ fn refused_calls_leave_zeros_in_outputs_and_the_rest_alone() {
     assert_eq!(LAYOUT.encode(&mut group), Err(Refusal::BadBufferLength));
     assert_eq!(LAYOUT.rebuild(&[4], &mut group), Err(Refusal::Outside));
     assert_eq!(group, [8; 11]);
+}
+
+/// A pool with a dead drive and any bytes on it, as text.
+fn mailed() -> Result<(Vec<u8>, Vec<u8>), Refusal> {
+    let mut image = blank_image();
+    let mut pool = Pool::new(LAYOUT, &mut image);
+    pool.write(0, &photograph(LAYOUT.measure()?.capacity as usize))?;
+    pool.fail(6)?;
+    scribble(&mut pool, 6);
+    let mut text = vec![1; LAYOUT.text_length()? as usize];
+    pool.write_text(&mut text)?;
+    Ok((image, text))
+}
+
+#[test]
+fn a_pool_goes_by_mail_and_comes_back() -> Result<(), Refusal> {
+    let (mut image, text) = mailed()?;
+    let mut lines = text.chunks(17);
+    let mut line = [0; 17];
+    let pool = Pool::new(LAYOUT, &mut image);
+    for target in 0..LAYOUT.p {
+        for frame in 0..LAYOUT.measure()?.frames {
+            pool.hex_line(target, frame, &mut line)?;
+            assert_eq!(lines.next(), Some(&line[..]));
+        }
+    }
+    assert_eq!(lines.next(), None);
+    let mut back = vec![9; image.len()];
+    LAYOUT.read_text(&text, &mut back)?;
+    assert_eq!(back, image);
+    Ok(())
+}
+
+#[test]
+fn a_refused_text_tells_its_line_and_leaves_zeros() -> Result<(), Refusal> {
+    let (image, text) = mailed()?;
+    let lines = text.len() as u64 / 17;
+    let refused = |layout: Layout, text: &[u8], length: usize| {
+        let mut image = vec![9; length];
+        let why = layout.read_text(text, &mut image).expect_err("the text is not read");
+        assert!(image.iter().all(|byte| *byte == 0));
+        (why.refusal, why.line)
+    };
+    let wrong = |text: &[u8]| refused(LAYOUT, text, image.len());
+    assert_eq!(wrong(b""), (Refusal::WrongLine, Some(1)));
+    assert_eq!(wrong(&text[..17]), (Refusal::WrongLine, Some(2)));
+    assert_eq!(wrong(&text[..text.len() - 1]), (Refusal::WrongLine, Some(lines)));
+    assert_eq!(wrong(&[&text[..], b"\n"].concat()), (Refusal::WrongLine, Some(lines + 1)));
+    let bad = Layout { p: 65, ..LAYOUT };
+    assert_eq!(refused(bad, &text, image.len()), (Refusal::BadLayout, None));
+    assert_eq!(refused(LAYOUT, b"", image.len() + 1), (Refusal::BadImageLength, None));
+    Ok(())
+}
+
+#[test]
+fn a_refused_text_says_why() {
+    let told = |refusal, line| TextRefusal { refusal, line }.to_string();
+    assert_eq!(told(Refusal::BadImageLength, None), "image length wrong");
+    assert!(told(Refusal::WrongLine, Some(12)).starts_with("line 12: a text that is not"));
+    assert_eq!(Layout { u: 0, ..LAYOUT }.text_length(), Err(Refusal::BadLayout));
 }
 
 #[test]

@@ -1,5 +1,6 @@
 //! Each refusal is provoked once in the library and met under its name, number and words.
-use crate::sources::file;
+use crate::sources::{file, in_lower_case};
+use crate::HEADER;
 use splicebell::{Catalogue, Entry, Key, Layout, Pool, Record, Refusal};
 
 const LAYOUT: Layout = Layout { n: 1, k: 1, p: 4, u: 4, t: 1, cookie: 0 };
@@ -9,14 +10,8 @@ const IMAGE_LENGTH: usize = 48;
 pub fn as_c_names() -> Vec<String> {
     let accepted = "SPLICEBELL_ACCEPTED 0".to_string();
     let named = |refusal: Refusal| {
-        let mut name = String::from("SPLICEBELL");
-        for letter in format!("{refusal:?}").chars() {
-            if letter.is_uppercase() {
-                name.push('_');
-            }
-            name.push(letter.to_ascii_uppercase());
-        }
-        format!("{name} {}", refusal.number())
+        let name = in_lower_case(&format!("{refusal:?}")).to_uppercase();
+        format!("SPLICEBELL_{name} {}", refusal.number())
     };
     [accepted].into_iter().chain(Refusal::ALL.map(named)).collect()
 }
@@ -31,8 +26,8 @@ fn on_a_full_catalogue<T>(call: impl Fn(&mut Catalogue) -> Result<T, Refusal>) -
     call(&mut Catalogue::new(&mut slots, 1)).err()
 }
 
-/// What the library says to a call of each kind, in the order of document 01's table.
-fn provoked() -> [Option<Refusal>; 11] {
+/// What the library says to a call of each kind, in the order of the numbers.
+fn provoked() -> [Option<Refusal>; 12] {
     let nothing_failed = Record::default();
     let one_failed = Record { failed: [2, 0, 0], k: 1, q: 0 };
     let repaired_unfailed = Record { failed: [0; 3], k: 0, q: 1 };
@@ -48,6 +43,7 @@ fn provoked() -> [Option<Refusal>; 11] {
         Catalogue::new(&mut [], 1).lookup(Key::default()).err(),
         on_a_full_catalogue(|catalogue| catalogue.insert(Entry { device: 2, file: 1, cob: 1 })),
         on_a_full_catalogue(|catalogue| catalogue.delete(Entry { device: 1, file: 1, cob: 2 })),
+        LAYOUT.read_text(b"", &mut [0; IMAGE_LENGTH]).err().map(Refusal::from),
     ]
 }
 
@@ -63,15 +59,27 @@ fn numbers_lead_back_to_their_refusal() {
         assert_eq!(Refusal::from_number(number), Some(refusal));
     }
     assert_eq!(Refusal::from_number(0), None);
-    assert_eq!(Refusal::from_number(12), None);
+    assert_eq!(Refusal::from_number(13), None);
 }
 
 /// docs/TRACE.md quotes document 01's table as `number: words`.
 #[test]
 fn the_words_are_document_01s() {
     let trace = file("docs/TRACE.md");
-    for refusal in Refusal::ALL {
+    for refusal in Refusal::ALL.into_iter().filter(|refusal| refusal.number() <= 11) {
         let quoted = format!(" {}: {refusal}", refusal.number());
         assert!(trace.contains(&quoted), "docs/TRACE.md does not say{quoted}");
+    }
+}
+
+/// Document 02 gives its numbers no row of a table, so the words are the header's.
+#[test]
+fn the_words_of_later_numbers_are_the_headers() {
+    let header = file(HEADER);
+    for refusal in Refusal::ALL.into_iter().filter(|refusal| refusal.number() > 11) {
+        let number = format!("= {}", refusal.number());
+        let of_number = header.lines().find(|line| line.contains(&number));
+        let words = format!("/* {refusal} */");
+        assert!(of_number.is_some_and(|line| line.ends_with(&words)), "the header lacks {words}");
     }
 }

@@ -84,16 +84,28 @@ fn split<'a>(tokens: &'a [String], at: &'a str) -> impl Iterator<Item = &'a [Str
     tokens.split(move |t| t == at).filter(|part| !part.is_empty())
 }
 
-/// The common name of a plain type: `uint64_t` and `u64`, `splicebell_layout` and `Layout`.
+/// The common name of a plain type: `uint64_t` and `u64`, `splicebell_text_read` and `TextRead`.
 fn plain(word: &str) -> String {
     let known = match word {
         "uint64_t" | "u64" => "u64",
         "uint8_t" | "u8" => "u8",
         "size_t" | "usize" => "usize",
         "bool" => "bool",
-        _ => return word.strip_prefix("splicebell_").unwrap_or(word).to_lowercase(),
+        _ => return in_lower_case(word.strip_prefix("splicebell_").unwrap_or(word)),
     };
     known.to_string()
+}
+
+/// A name of several words as C writes it: `text_read` for `TextRead`.
+pub fn in_lower_case(name: &str) -> String {
+    let mut lower = String::new();
+    for letter in name.chars() {
+        if letter.is_uppercase() && !lower.is_empty() {
+            lower.push('_');
+        }
+        lower.extend(letter.to_lowercase());
+    }
+    lower
 }
 
 // ---- C
