@@ -129,10 +129,18 @@ impl Trial<'_> {
     }
 }
 
-/// The bytes of a buffer in a report, those of a long one in part: its round can be repeated.
+/// How much of a buffer is told in a report: the round of a long one can be repeated.
+const SHOWN: usize = 4096;
+
+/// The bytes of a buffer in a report.
 pub fn hex(bytes: &[u8]) -> String {
-    const SHOWN: usize = 4096;
     let digits: String = bytes.iter().take(SHOWN).map(|byte| format!("{byte:02x}")).collect();
     let rest = if bytes.len() > SHOWN { ".." } else { "" };
     format!("({} bytes) {digits}{rest}", bytes.len())
+}
+
+/// The characters of a text in a report.
+pub fn quoted(text: &[u8]) -> String {
+    let rest = if text.len() > SHOWN { ".." } else { "" };
+    format!("({} bytes) \"{}\"{rest}", text.len(), text[..text.len().min(SHOWN)].escape_ascii())
 }

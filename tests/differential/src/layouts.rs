@@ -73,6 +73,13 @@ pub fn tall(draws: &mut Draws) -> Layout {
     Layout { n, k, p, u: 1, t: MOST_TILES, cookie: cookie(draws) }
 }
 
+/// A layout with frames from 65,536 on, which have five hex digits that matter, and the fewest lines with that: its
+/// image has 393,216 to 786,432 bytes.
+pub fn high(draws: &mut Draws) -> Layout {
+    let (n, k, p) = draws.pick(&[(2, 0, 3), (3, 0, 4), (1, 1, 4)]);
+    Layout { n, k, p, u: 1, t: MOST_TILES, cookie: cookie(draws) }
+}
+
 /// Whether the model can go through all groups of the layout in a short time.
 pub fn is_light(y: &Layout) -> bool {
     let numbers = y.derived();

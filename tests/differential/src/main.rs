@@ -1,9 +1,10 @@
 //! Random runs of every public call of Splicebell beside the model in oracle/, which is written from
-//! document 01 alone. After every call the answer, every lent byte and the bytes beside every lent buffer
+//! the documents alone. After every call the answer, every lent byte and the bytes beside every lent buffer
 //! are compared. docs/TESTING.md tells what it shows.
 
 mod bench;
 mod catalogues;
+mod damages;
 mod draws;
 mod faults;
 mod groups;
@@ -15,6 +16,7 @@ mod pools;
 mod records;
 mod spoil;
 mod tally;
+mod texts;
 
 use bench::{Bench, ROUND, SEED};
 use draws::Draws;
@@ -60,10 +62,11 @@ fn options(mut words: impl Iterator<Item = String>) -> Option<Options> {
 fn round(bench: &mut Bench, seed: u64, number: u64) {
     ROUND.store(number, Relaxed);
     bench.draws = Draws::new(seed, number);
-    match bench.draws.below(10) {
+    match bench.draws.below(11) {
         0 | 1 => places::round(bench),
         2 | 3 => groups::round(bench),
         4 | 5 => catalogues::round(bench),
+        6 => texts::round(bench),
         _ => pools::round(bench),
     }
 }

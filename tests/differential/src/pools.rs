@@ -91,7 +91,7 @@ impl Pool {
 }
 
 /// The image cut or made longer.
-fn resized(draws: &mut Draws, image: &[u8]) -> Vec<u8> {
+pub fn resized(draws: &mut Draws, image: &[u8]) -> Vec<u8> {
     let mut other = image.to_vec();
     other.resize(draws.wrong_length(image.len()), draws.word() as u8);
     other

@@ -1,5 +1,6 @@
-//! What has been tried so far: the calls with their refusal numbers, and the layouts.
+//! What has been tried so far: the calls with their refusal numbers, the layouts, and the damage done to texts.
 
+use crate::damages::DAMAGES;
 use oracle::layout::Layout;
 
 /// The public calls, in the order of include/splicebell.h.
@@ -26,10 +27,12 @@ pub enum Call {
     Delete,
     Listing,
     HexLine,
+    WriteText,
+    ReadText,
 }
 
 /// The name of each call, and the numbers that it may answer by include/splicebell.h, beside 0.
-const CALLS: [(&str, &[usize]); 21] = [
+const CALLS: [(&str, &[usize]); 23] = [
     ("measure", &[1]),
     ("tile_permutation", &[1, 4]),
     ("tile_inverse", &[1, 4]),
@@ -51,6 +54,8 @@ const CALLS: [(&str, &[usize]); 21] = [
     ("delete", &[9, 11]),
     ("listing", &[9]),
     ("hex_line", &[1, 2, 4, 5]),
+    ("write_text", &[1, 2, 5]),
+    ("read_text", &[1, 2, 12]),
 ];
 
 impl Call {
@@ -59,8 +64,8 @@ impl Call {
     }
 }
 
-/// The refusal numbers of document 01's table.
-const REFUSALS: usize = 12;
+/// The refusal numbers, 0 among them: document 01's table, and 12 of document 02.
+const REFUSALS: usize = 13;
 
 /// The lowest and the highest that was seen.
 #[derive(Clone, Copy)]
@@ -110,11 +115,19 @@ pub struct Tally {
     counts: [[u64; REFUSALS]; CALLS.len()],
     all: Ranges,
     pools: Ranges,
+    texts: Ranges,
+    /// How often each kind of damage was done to a text.
+    damages: [u64; DAMAGES.len()],
 }
 
 impl Tally {
-    pub const NONE: Tally =
-        Tally { counts: [[0; REFUSALS]; CALLS.len()], all: Ranges::NONE, pools: Ranges::NONE };
+    pub const NONE: Tally = Tally {
+        counts: [[0; REFUSALS]; CALLS.len()],
+        all: Ranges::NONE,
+        pools: Ranges::NONE,
+        texts: Ranges::NONE,
+        damages: [0; DAMAGES.len()],
+    };
 
     pub fn add(&mut self, call: Call, refusal: u64) {
         self.counts[call as usize][refusal as usize] += 1;
@@ -130,6 +143,16 @@ impl Tally {
     /// A layout that has a whole image.
     pub fn add_pool(&mut self, layout: &Layout) {
         self.pools.add(layout);
+    }
+
+    /// A layout whose pool is written as text, or read from one.
+    pub fn add_text(&mut self, layout: &Layout) {
+        self.texts.add(layout);
+    }
+
+    /// A text was damaged, in the way that has this number among [`DAMAGES`].
+    pub fn add_damage(&mut self, kind: usize) {
+        self.damages[kind] += 1;
     }
 
     pub fn calls(&self) -> u64 {
@@ -150,17 +173,23 @@ impl Tally {
         for number in 0..REFUSALS {
             println!("refusal {number:<9}{:9}", self.of_refusal(number));
         }
+        for ((name, _), count) in DAMAGES.iter().zip(self.damages) {
+            println!("text: {name:25}{count:9}");
+        }
         self.all.print("without an image");
         self.pools.print("pools");
+        self.texts.print("texts");
     }
 
-    /// The calls and their refusal numbers that were never met.
+    /// The calls and their refusal numbers that were never met, and the damage that was never done.
     pub fn never_met(&self) -> Vec<String> {
         let mut never = Vec::new();
         for ((name, refusals), of_call) in CALLS.iter().zip(self.counts) {
             let numbers = [0].iter().chain(*refusals).filter(|number| of_call[**number] == 0);
             never.extend(numbers.map(|number| format!("{name} with {number}")));
         }
+        let damages = DAMAGES.iter().zip(self.damages).filter(|(_, count)| *count == 0);
+        never.extend(damages.map(|((name, _), _)| format!("a text with {name}")));
         never
     }
 }
