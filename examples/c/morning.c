@@ -47,6 +47,35 @@ static void dump(pool p, uint64_t frames) {
     }
 }
 
+static int all_zeros(const uint8_t *bytes, size_t length) {
+    for (size_t i = 0; i < length; i++) {
+        if (bytes[i] != 0) {
+            return 0;
+        }
+    }
+    return 1;
+}
+
+/* Field staff mail the row as text; the desk takes it back, and refuses a copy that was spoilt. */
+static void mail(pool p, uint64_t frames) {
+    size_t line = 11 + 2 * row.u, lines = row.p * frames, length = lines * line;
+    uint8_t *text = malloc(length), *copy = malloc(p.length);
+    if (text == NULL || copy == NULL) {
+        exit(EXIT_FAILURE);
+    }
+    accepted(splicebell_write_text(row, p.image, p.length, text, length));
+    printf("The row is mailed as a text of %zu lines.\n", lines);
+    accepted(splicebell_read_text(row, text, length, copy, p.length).refusal);
+    printf("The copy read from it is %s.\n", memcmp(copy, p.image, p.length) == 0 ? "the same" : "another");
+
+    text[6 * line + 2] = '\t';
+    splicebell_text_read wrong = splicebell_read_text(row, text, length, copy, p.length);
+    printf("With a tab in it, it is refused with %" PRIu64 " at line %" PRIu64 ", and the copy %s.\n", wrong.refusal,
+           wrong.line, all_zeros(copy, p.length) ? "is zeros" : "still holds bytes");
+    free(copy);
+    free(text);
+}
+
 int main(void) {
     splicebell_measured measured = splicebell_measure(row);
     accepted(measured.refusal);
@@ -74,6 +103,7 @@ int main(void) {
     show(p, SECOND_AT, strlen(second));
     printf("The drives now, each line a drive, a frame and its bytes:\n");
     dump(p, measured.numbers.frames);
+    mail(p, measured.numbers.frames);
     free(p.image);
     return EXIT_SUCCESS;
 }

@@ -32,6 +32,27 @@ fn dump(pool: &Pool, frames: u64) -> Result<()> {
     Ok(())
 }
 
+/// Field staff mail the row as text; the desk takes it back, and refuses a copy that was spoilt.
+fn mail(pool: &Pool) -> Result<()> {
+    let line = 11 + 2 * ROW.u as usize;
+    let mut text = vec![0; ROW.text_length()? as usize];
+    pool.write_text(&mut text)?;
+    println!("The row is mailed as a text of {} lines.", text.len() / line);
+    let mut copy = vec![0; pool.image().len()];
+    ROW.read_text(&text, &mut copy)?;
+    println!(
+        "The copy read from it is {}.",
+        if copy == pool.image() { "the same" } else { "another" }
+    );
+
+    text[6 * line + 2] = b'\t';
+    let wrong = ROW.read_text(&text, &mut copy).expect_err("a tab is no space");
+    let left = if copy.iter().all(|byte| *byte == 0) { "is zeros" } else { "still holds bytes" };
+    let (number, at) = (wrong.refusal.number(), wrong.line.unwrap_or(0));
+    println!("With a tab in it, it is refused with {number} at line {at}, and the copy {left}.");
+    Ok(())
+}
+
 fn main() -> Result<()> {
     let numbers = ROW.measure()?;
     let mut image = vec![0; numbers.image as usize];
@@ -52,5 +73,6 @@ fn main() -> Result<()> {
     show(&pool, 0, FIRST.len())?;
     show(&pool, SECOND_AT, SECOND.len())?;
     println!("The drives now, each line a drive, a frame and its bytes:");
-    dump(&pool, numbers.frames)
+    dump(&pool, numbers.frames)?;
+    mail(&pool)
 }
