@@ -6,6 +6,7 @@ pub mod codes;
 pub mod examples;
 pub mod hex_pools;
 pub mod layouts;
+pub mod mail;
 pub mod morning;
 pub mod pool_runs;
 pub mod products;
@@ -20,7 +21,7 @@ macro_rules! line {
 pub(crate) use line;
 
 /// The programs by name.
-pub const NAMES: [&str; 8] = [
+pub const NAMES: [&str; 9] = [
     "examples",
     "layouts",
     "products",
@@ -29,6 +30,7 @@ pub const NAMES: [&str; 8] = [
     "hex_pools",
     "pool_runs",
     "morning",
+    "mail",
 ];
 
 /// The expected output of the program of this name.
@@ -42,6 +44,7 @@ pub fn expected(name: &str) -> Option<String> {
         "hex_pools" => Some(hex_pools::output()),
         "pool_runs" => Some(pool_runs::output()),
         "morning" => Some(morning::output()),
+        "mail" => Some(mail::output()),
         _ => None,
     }
 }
