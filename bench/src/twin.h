@@ -11,6 +11,9 @@ uint64_t twin_read(splicebell_layout y, splicebell_record r, const uint8_t *imag
 uint64_t twin_write(splicebell_layout y, splicebell_record r, uint8_t *image, size_t image_len, uint64_t offset,
                     const uint8_t *bytes, size_t bytes_len);
 splicebell_repaired twin_repair(splicebell_layout y, splicebell_record r, uint8_t *image, size_t image_len);
+uint64_t twin_write_text(splicebell_layout y, const uint8_t *image, size_t image_len, uint8_t *text, size_t text_len);
+splicebell_text_read twin_read_text(splicebell_layout y, const uint8_t *text, size_t text_len, uint8_t *image,
+                                    size_t image_len);
 splicebell_mapped twin_map_offset(splicebell_layout y, uint64_t offset);
 
 #endif

@@ -5,10 +5,12 @@
  *     pool:repair:8+2:20:1:ours       a pass over a pool on 24 targets: code, tiles, failures
  *     map:ours
  *     catalogue:lookup:10000          records
+ *     text:write:4096:ours            bytes of a unit, of a pool of 20 tiles
  */
 #include "catalogue.h"
 #include "coders.h"
 #include "pools.h"
+#include "texts.h"
 #include "twin.h"
 
 #include <stdio.h>
@@ -92,6 +94,16 @@ static int work_on_catalogue(const char *name, long repeats)
     return repeat(work, &c, repeats, n, 1);
 }
 
+static int work_on_text(const char *name, long repeats)
+{
+    char call[20], who[20];
+    int unit;
+    must(sscanf(name, "text:%19[^:]:%d:%19[^:]", call, &unit, who) == 3, name);
+    struct text t = text_of(unit, 20);
+    t.calls = strcmp(who, "ours") == 0 ? &our_text_calls : &twin_text_calls;
+    return repeat(strcmp(call, "write") == 0 ? write_whole_text : read_whole_text, &t, repeats, t.text_len, 1);
+}
+
 int do_work(const char *name, long repeats)
 {
     if (strncmp(name, "pool:", 5) == 0)
@@ -100,6 +112,8 @@ int do_work(const char *name, long repeats)
         return work_on_map(name, repeats);
     if (strncmp(name, "catalogue:", 10) == 0)
         return work_on_catalogue(name, repeats);
+    if (strncmp(name, "text:", 5) == 0)
+        return work_on_text(name, repeats);
     return work_on_group(name, repeats);
 }
 
@@ -139,5 +153,7 @@ int list_works(void)
     printf("map:ours\nmap:Rust twin\n");
     for (int n = 100; n <= 10000; n *= 100)
         printf("catalogue:lookup:%d\ncatalogue:insert and delete:%d\ncatalogue:listing:%d\n", n, n, n);
+    for (int u = 512; u <= 4096; u *= 8)
+        printf("text:write:%d:ours\ntext:write:%d:Rust twin\ntext:read:%d:ours\ntext:read:%d:Rust twin\n", u, u, u, u);
     return 0;
 }

@@ -34,6 +34,11 @@ impl Shape {
         Shape { layout, width, rows: width / divisor, groups_in_tile: layout.p / divisor }
     }
 
+    /// Of one target.
+    pub fn frames(&self) -> usize {
+        (self.rows * self.layout.t) as usize
+    }
+
     /// Entry c is the target of column c.
     pub fn permutation(&self, tile: u64) -> [u8; 64] {
         let mut state = self.layout.cookie.wrapping_add(11400714819323198485u64.wrapping_mul(tile));

@@ -1,11 +1,13 @@
 //! A plain Rust twin of the calls that are timed, to compare with: the same layout, the same bytes, no proofs and no
-//! tests of what is passed. The C side is declared in `src/twin.h`, with the types of `splicebell.h`.
+//! tests of what is passed, but for the text that is read. The C side is declared in `src/twin.h`, with the types of
+//! `splicebell.h`.
 
 mod code;
 mod field;
 mod homes;
 mod layout;
 mod pool;
+mod text;
 
 use homes::Record;
 use layout::{Layout, Shape};
@@ -27,7 +29,13 @@ pub struct Repaired {
     record: Record,
 }
 
-/// Answers 0, as every call here: what is passed is taken to be sound.
+#[repr(C)]
+pub struct TextRead {
+    refusal: u64,
+    line: u64,
+}
+
+/// Answers 0, as every call here but the reader of a text: what is passed is taken to be sound.
 ///
 /// # Safety
 /// `group` leads to `length` bytes that nothing else touches.
@@ -107,6 +115,35 @@ pub unsafe extern "C" fn twin_repair(
 ) -> Repaired {
     let count = pool::repair(y, &r, from_raw_parts_mut(image, image_length));
     Repaired { refusal: 0, count, record: Record { q: r.k, ..r } }
+}
+
+/// # Safety
+/// The pointers lead to as many bytes as their lengths say; nothing else touches `text`.
+#[no_mangle]
+pub unsafe extern "C" fn twin_write_text(
+    y: Layout,
+    image: *const u8,
+    image_length: usize,
+    text: *mut u8,
+    text_length: usize,
+) -> u64 {
+    text::write(y, from_raw_parts(image, image_length), from_raw_parts_mut(text, text_length));
+    0
+}
+
+/// # Safety
+/// The pointers lead to as many bytes as their lengths say; nothing else touches `image`.
+#[no_mangle]
+pub unsafe extern "C" fn twin_read_text(
+    y: Layout,
+    text: *const u8,
+    text_length: usize,
+    image: *mut u8,
+    image_length: usize,
+) -> TextRead {
+    let line =
+        text::read(y, from_raw_parts(text, text_length), from_raw_parts_mut(image, image_length));
+    TextRead { refusal: if line == 0 { 0 } else { 12 }, line }
 }
 
 #[no_mangle]
