@@ -1,9 +1,9 @@
 -- How many numbers below n pass a test, and the sum of a function below n.
-use mathlib.Core.Path.{_≡_, refl, sym, ap, ap₂, _∙_}
-use mathlib.Core.Logic.{_⊎_, inl, inr}
+use mathlib.Core.Path.{_≡_, refl, sym, ap, ap₂, _∙_, subst}
+use mathlib.Core.Logic.{_⊎_, inl, inr, ⊎-elim}
 use mathlib.Core.Bool.{Bool, true, false, not}
 use Prim.Native.Nat.{ℕ, zero, suc, _+_, _*_, _%_, _≤_, _<_}
-use native.Mathlib.Nat.{le-refl, add-zero, add-suc, add-assoc, mul-zero, mul-suc, not-suc-le-zero, le-of-suc-le-suc, eq-or-lt-of-le, le-dest}
+use native.Mathlib.Nat.{le-refl, add-zero, add-suc, add-assoc, mul-zero, mul-suc, suc-mul, not-suc-le-zero, le-of-suc-le-suc, eq-or-lt-of-le, le-dest}
 use native.Mathlib.Numerals.{add-one}
 use native.Mathlib.Omega.{arith}
 use lib.Dec.{eqb}
@@ -74,6 +74,24 @@ count-mono f m n h =
     let d = le-dest h in
     let e : count f n ≡ count f m + count (λ k. f (m + k)) (d .0) = ap (count f) (sym (d .1)) ∙ count-add f m (d .0) in
     omega arith
+
+pub sum-mono : (s : ℕ → ℕ) (m n : ℕ) → m ≤ n → sum s m ≤ sum s n
+unfolding sum
+sum-mono s m zero h = let e : m ≡ 0 = omega arith in subst (λ (k : ℕ). sum s k ≤ 0) (sym e) (omega arith)
+sum-mono s m (suc n) h =
+    ⊎-elim (λ (e : m ≡ suc n). subst (λ (k : ℕ). sum s k ≤ sum s n + s n) (sym e) (omega arith))
+    (λ (l : m < suc n). let a = sum-mono s m n (le-of-suc-le-suc l) in omega (arith, a))
+    (eq-or-lt-of-le h)
+
+-- numbers of at most m each
+pub sum-le : (s : ℕ → ℕ) (m n : ℕ) → ((k : ℕ) → k < n → s k ≤ m) → sum s n ≤ n * m
+unfolding sum
+sum-le s m zero ok = omega arith
+sum-le s m (suc n) ok =
+    let a = sum-le s m n (λ k h. ok k (omega arith)) in
+    let b = ok n (omega arith) in
+    let e = suc-mul n m in
+    omega (arith, a, b, e)
 
 pub count-le : (f : ℕ → Bool) (n : ℕ) → count f n ≤ n
 unfolding count

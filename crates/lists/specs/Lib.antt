@@ -2,6 +2,7 @@ pub mod Pick
 pub mod Tabulate
 pub mod Count
 pub mod Search
+pub mod First
 pub mod Those
 pub mod Passing
 pub mod Digits

@@ -2,11 +2,11 @@
 use mathlib.Core.Path.{_≡_, refl, ap, sym, subst, _∙_}
 use mathlib.Core.Bool.{Bool, true}
 use mathlib.Core.List.{List, [], _∷_}
-use Prim.Native.Nat.{ℕ, zero, suc, _+_, _<_}
+use Prim.Native.Nat.{ℕ, zero, suc, _+_, _≤_, _<_}
 use native.Mathlib.Nat.{not-suc-le-zero, le-of-suc-le-suc}
 use native.Mathlib.Omega.{arith}
-use lib.ListN.{length, getD, set}
-use lib.Seq.{ext-getD, getD-set-same, getD-set-other}
+use lib.ListN.{length, getD, set, take, drop, length-drop}
+use lib.Seq.{ext-getD, getD-set-same, getD-set-other, length-take-le, getD-take, getD-drop}
 use borrow.Author.Tests.{eqb-true}
 use lib.Dec.{eqb}
 use Rattle.lists.specs.Pick.{both, both-true, equal-or-not}
@@ -63,3 +63,9 @@ zero-at (x ∷ l) t (suc i) = zero-at l (both-true (eqb x 0) (allZero l) t .1) i
 -- entry t of a list of numbers
 abbrev pub at : List ℕ → ℕ → ℕ
 at l t = getD l t 0
+
+-- a part of a list: k elements from a on
+pub part-tabulated : (k a : ℕ) (l : List ℕ) → a + k ≤ length l → take k (drop a l) ≡ tabulate k (λ i. at l (a + i))
+part-tabulated k a l h =
+    tabulated k (λ i. at l (a + i)) (take k (drop a l)) 0 (length-take-le k (drop a l) (let e = length-drop a l in omega (arith, e)))
+    (λ i b. getD-take k (drop a l) i 0 b ∙ getD-drop a l i 0)

@@ -21,7 +21,7 @@ pub record Sound (y : Layout) (R : Record) (len : ℕ) : Type 0 where
   pub len-is : len ≡ imageLength y
   pub good : Good y R
 
-sound : (y : Layout) (R : Record) (len : ℕ) → validb y ≡ true → eqb len (imageLength y) ≡ true → recordGood y R ≡ true → Sound y R len
+pub sound : (y : Layout) (R : Record) (len : ℕ) → validb y ≡ true → eqb len (imageLength y) ≡ true → recordGood y R ≡ true → Sound y R len
 sound y R len a b c = record { valid = valid-of y a; len-is = eqb-true len (imageLength y) b; good = record-good y R c }
 
 -- then nothing but a call's own tests refuses it

@@ -1,5 +1,5 @@
 -- What a write and a repair change, on any image and for any input: only what they store; and a repair never a byte of a failed target.
-use mathlib.Core.Path.{_≡_, sym, ap, _∙_, subst}
+use mathlib.Core.Path.{_≡_, refl, sym, ap, _∙_, subst}
 use mathlib.Core.Logic.{_⊎_, inl, ⊎-elim}
 use mathlib.Core.Bool.{Bool, true, false, not}
 use mathlib.Core.List.{List, []}
@@ -7,8 +7,8 @@ use Prim.Native.Nat.{ℕ, _≤_, _<_}
 use native.Mathlib.Omega.{arith}
 use lib.Dec.{ltb}
 use lib.ListN.{length}
-use Rattle.lists.specs.Pick.{both, both-off, pick-true, pick-false, either-way, clash, below-or-not, equal-or-not}
-use Rattle.lists.specs.Part.{within, within-before, within-after}
+use Rattle.lists.specs.Pick.{both, both-off, pick-true, pick-false, either-way, clash, not-both-ways, equal-or-not}
+use Rattle.lists.specs.Part.{within, within-of}
 use Rattle.lists.specs.Search.{any-false}
 use Rattle.lists.specs.Tabulate.{at}
 use Rattle.numbers.specs.declared.Layout.{Layout}
@@ -21,7 +21,7 @@ use Rattle.homes.specs.Missing.{targetAt, home, missing}
 use Rattle.homes.specs.MissingLaws.{home-lt, home-alive}
 use Rattle.pool.specs.Refusals.{rangeRefusal, repairRefusal}
 use Rattle.pool.specs.Storing.{Stores}
-use Rattle.pool.specs.Writing.{named, touched, writes, writesPresent, writeImage}
+use Rattle.pool.specs.Writing.{named, touched, writes, writesPresent, writtenImage, writeImage}
 use Rattle.pool.specs.Repairing.{mends, repairImage}
 use Rattle.pool.specs.Asked.{range-asked, repair-asked}
 use Rattle.pool.specs.StoringLaws.{storing-none, storing-changes}
@@ -75,20 +75,25 @@ module _ (y : Layout) (R : Record) (img : List ℕ) where
       (repair-changes x h))
       (λ (z : repairRefusal y R (length img) ≡ 0 → ⊥). ap (λ (i : List ℕ). at i x) (repair-refused y R img z))
 
--- a write of no bytes leaves the image, accepted or refused
+-- a write of no bytes stores nothing
+module _ (y : Layout) (R : Record) (img : List ℕ) (offset : ℕ) (bytes : List ℕ) (none : length bytes ≡ 0) where
+  unnamed : (x : ℕ) → within offset (length bytes) x ≡ false
+  unnamed x = not-both-ways _ (λ t. let b = within-of offset (length bytes) x t .1 in absurd (omega (arith, b, none)))
+
+  unwritten : (g o c : ℕ) → writes y offset (length bytes) g o c ≡ false
+  unfolding writes touched
+  unwritten g o c =
+      ⊎-elim
+      (λ (t : ltb c (y .n) ≡ true). pick-true (ltb c (y .n)) _ _ t ∙ unnamed (offsetOf y g c o))
+      (λ (t : ltb c (y .n) ≡ false). pick-false (ltb c (y .n)) _ _ t ∙ any-false (λ d. named y offset (length bytes) g o d) (y .n) (λ d h. unnamed (offsetOf y g d o)))
+      (either-way (ltb c (y .n)))
+
+  pub written-none : writtenImage y R img offset bytes ≡ img
+  written-none = storing-none y R (R .q) _ _ img (λ g o c. ap (both (not (missing y R g c))) (unwritten g o c) ∙ both-off (not (missing y R g c)))
+
+-- and leaves the image, accepted or refused
 pub write-none : (y : Layout) (R : Record) (img : List ℕ) (offset : ℕ) → writeImage y R img offset [] ≡ img
-unfolding writes touched
 write-none y R img offset =
     equal-or-not (rangeRefusal y R (length img) offset 0) 0
-    (λ z. write-accepted y R img offset [] z ∙ storing-none y R (R .q) _ _ img (λ g o c. ap (both (not (missing y R g c))) (unwritten g o c) ∙ both-off (not (missing y R g c))))
+    (λ z. write-accepted y R img offset [] z ∙ written-none y R img offset [] refl)
     (λ z. write-refused y R img offset [] z)
-  where
-    unnamed : (x : ℕ) → within offset 0 x ≡ false
-    unnamed x = below-or-not x offset (within-before offset 0 x) (λ (h : offset ≤ x). within-after offset 0 x (omega arith))
-
-    unwritten : (g o c : ℕ) → writes y offset 0 g o c ≡ false
-    unwritten g o c =
-        ⊎-elim
-        (λ (t : ltb c (y .n) ≡ true). pick-true (ltb c (y .n)) _ _ t ∙ unnamed (offsetOf y g c o))
-        (λ (t : ltb c (y .n) ≡ false). pick-false (ltb c (y .n)) _ _ t ∙ any-false (λ d. named y offset 0 g o d) (y .n) (λ d h. unnamed (offsetOf y g d o)))
-        (either-way (ltb c (y .n)))

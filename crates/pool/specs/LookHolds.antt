@@ -6,10 +6,9 @@ use mathlib.Core.List.{List, []}
 use Prim.Native.Nat.{ℕ, _+_, _-_, _<_}
 use native.Mathlib.Nat.{add-assoc, zero-add}
 use native.Mathlib.Omega.{arith}
-use lib.ListN.{length, take, drop, length-drop}
-use lib.Seq.{getD-take, getD-drop, length-take-le}
+use lib.ListN.{length, take, drop}
 use Rattle.lists.specs.Pick.{pick, pick-true, pick-false, either-way}
-use Rattle.lists.specs.Tabulate.{at, tabulate, tabulated, zeros, length-tabulate, tabulate-ext}
+use Rattle.lists.specs.Tabulate.{at, tabulate, zeros, length-tabulate, tabulate-ext, part-tabulated}
 use Rattle.lists.specs.Refusal.{grant-yes, grant-either}
 use Rattle.numbers.specs.declared.Layout.{Layout}
 use Rattle.numbers.specs.Layouts.{allGroups, contents, imageLength}
@@ -39,14 +38,10 @@ pub part-stored : (y : Layout) (R : Record) (img : List ℕ) → Sound y R (leng
     → take (y .u) (drop (homeSpot y R g 0 c) img) ≡ tabulate (y .u) (λ o. stored y R img g o c)
 unfolding stored
 part-stored y R img s g c hg hc =
-    tabulated (y .u) _ _ 0 len
-    (λ o h. getD-take (y .u) _ o 0 h ∙ getD-drop (homeSpot y R g 0 c) img o 0 ∙ ap (at img) (home-spot-add y R g o c))
-  where
-    len : length (take (y .u) (drop (homeSpot y R g 0 c) img)) ≡ y .u
-    len =
-        let u = s .valid .some-bytes in
-        let last : homeSpot y R g (y .u - 1) c < imageLength y = home-spot-lt y R (s .valid) (s .good) g (y .u - 1) c hg (omega arith) hc in
-        length-take-le (y .u) (drop (homeSpot y R g 0 c) img) (omega (arith, length-drop (homeSpot y R g 0 c) img, home-spot-add y R g (y .u - 1) c, s .len-is))
+    let u = s .valid .some-bytes in
+    let last : homeSpot y R g (y .u - 1) c < imageLength y = home-spot-lt y R (s .valid) (s .good) g (y .u - 1) c hg (omega arith) hc in
+    part-tabulated (y .u) (homeSpot y R g 0 c) img (omega (arith, home-spot-add y R g (y .u - 1) c, s .len-is))
+    ∙ tabulate-ext 0 (y .u) _ _ (λ o h. ap (at img) (home-spot-add y R g o c))
 
 pub scratch-is : (y : Layout) (R : Record) (img : List ℕ) (room g c : ℕ) → lookRefusal y R (length img) room g c ≡ 0
     → lookScratch y R img room g c ≡ tabulate (y .u) (λ o. pick (missing y R g c) (contentByte y R img g o c) 0)

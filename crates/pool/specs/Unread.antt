@@ -60,7 +60,7 @@ module _ (y : Layout) (R R′ : Record) (alike : Alike R R′) where
   good-same : recordGood y R ≡ recordGood y R′
   good-same = good-unread y (R .failed) (R′ .failed) (R .k) (R .q) (alike .same-entries) ∙ ap (recordGood y) is-twin
 
-  tests-same : (len : ℕ) (rest : List (Bool × ℕ))
+  pub tests-same : (len : ℕ) (rest : List (Bool × ℕ))
       → refusalBy ((validb y, 1) ∷ (eqb len (imageLength y), 2) ∷ (recordGood y R, 3) ∷ rest) ≡ refusalBy ((validb y, 1) ∷ (eqb len (imageLength y), 2) ∷ (recordGood y R′, 3) ∷ rest)
   tests-same len rest = ap (λ (b : Bool). refusalBy ((validb y, 1) ∷ (eqb len (imageLength y), 2) ∷ (b, 3) ∷ rest)) good-same
 
