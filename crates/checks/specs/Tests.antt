@@ -1,10 +1,11 @@
 -- A call's own tests come after those that every call makes.
-use mathlib.Core.Path.{_≡_, sym, _∙_}
+use mathlib.Core.Path.{_≡_, refl, sym, _∙_}
 use mathlib.Core.Bool.{Bool, true, false}
-use mathlib.Core.List.{List, []}
+use mathlib.Core.List.{List, [], _∷_}
 use Prim.Native.Nat.{ℕ, _-_, _≤_, _<_}
-use lib.Dec.{eqb}
-use borrow.Author.Tests.{eq-eqb, ne-eqb, lt-ltb, le-ltb, le-leb, lt-leb}
+use lib.Dec.{eqb, leb}
+use borrow.Author.Tests.{eq-eqb, ne-eqb, lt-ltb, le-ltb}
+use Rattle.lists.specs.Pick.{pick, both}
 use Rattle.lists.specs.Refusal.{_orElse_, refusalBy, orElse-left, orElse-right, refusal-append, step-passes}
 use Rattle.numbers.specs.declared.Layout.{Layout}
 use Rattle.numbers.specs.Layouts.{Valid, contents, allGroups, capacity, imageLength}
@@ -15,7 +16,7 @@ use Rattle.pool.specs.Refusals.{poolTests, rangeTests, failTests, lookTests, re
 
 module _ (y : Layout) (R : Record) (len : ℕ) where
   -- every call's table begins with these
-  first-tests : (rest : List (Bool × ℕ)) → refusalBy (poolTests y R len rest) ≡ repairRefusal y R len orElse refusalBy rest
+  pub first-tests : (rest : List (Bool × ℕ)) → refusalBy (poolTests y R len rest) ≡ repairRefusal y R len orElse refusalBy rest
   unfolding repairRefusal
   first-tests rest = refusal-append (poolTests y R len []) rest
 
@@ -39,18 +40,19 @@ module _ (y : Layout) (R : Record) (len : ℕ) where
 
 -- ---- a range
 
-module _ (y : Layout) (offset size : ℕ) where
-  pub range-beyond : capacity y < offset → 4 ≡ refusalBy (rangeTests y offset size)
-  unfolding refusalBy _orElse_
-  range-beyond h = sym (simp (lt-leb offset (capacity y) h))
+-- both tests of a range of `size` bytes from `offset` on pass
+abbrev pub insideOf : ℕ → ℕ → ℕ → Bool
+insideOf capacity offset size = both (leb offset capacity) (leb size (capacity - offset))
 
-  pub range-long : offset ≤ capacity y → capacity y - offset < size → 4 ≡ refusalBy (rangeTests y offset size)
-  unfolding refusalBy _orElse_
-  range-long h l = sym (simp (le-leb offset (capacity y) h, lt-leb size (capacity y - offset) l))
-
-  pub range-inside : offset ≤ capacity y → size ≤ capacity y - offset → 0 ≡ refusalBy (rangeTests y offset size)
-  unfolding refusalBy _orElse_
-  range-inside h l = sym (simp (le-leb offset (capacity y) h, le-leb size (capacity y - offset) l))
+-- so it is refused with nothing, or with 4
+pub range-by : (y : Layout) (offset size : ℕ) → refusalBy (rangeTests y offset size) ≡ pick (insideOf (capacity y) offset size) 0 4
+unfolding refusalBy _orElse_
+range-by y offset size = by (leb offset (capacity y)) (leb size (capacity y - offset))
+  where
+    by : (a b : Bool) → refusalBy ((a, 4) ∷ (b, 4) ∷ []) ≡ pick (both a b) 0 4
+    by true true = refl
+    by true false = refl
+    by false b = refl
 
 -- ---- a target that is to fail
 

@@ -1,9 +1,10 @@
 // The tests that the pool's calls make, in the order of document 01's table. Inner: the calls
-// themselves are `pool_read`, `pool_write`, `pool_fail`, `pool_repair` and `pool_look`.
+// themselves are `pool_read`, `pool_write`, `pool_list`, `pool_fail`, `pool_repair` and `pool_look`.
 use homes::Record;
 use numbers::Layout;
 ghost use mathlib.Core.Path.{_≡_};
 ghost use Rattle.pool.specs.Refusals.{repairRefusal, rangeRefusal, failRefusal, lookRefusal};
+ghost use Rattle.checks.specs.Tests.{insideOf};
 
 // Layout, image length and record: all that a repair tests, and what every call tests first.
 pub fn pool_refusal(y: Layout, r: Record, len: usize) -> u64
@@ -21,6 +22,16 @@ pub fn pool_refusal(y: Layout, r: Record, len: usize) -> u64
     homes::record_refusal(y, r)
 }
 
+// Whether a range of `size` bytes of a file of `capacity` bytes from `offset` on lies inside.
+pub fn is_inside(capacity: u64, offset: u64, size: u64) -> bool
+    ensures { λ b. ⌜ b ≡ insideOf capacity offset size ⌝ }
+{
+    if capacity < offset {
+        return false;
+    }
+    size <= capacity - offset
+}
+
 // A range of `size` bytes of the file from `offset` on.
 pub fn range_refusal(y: Layout, r: Record, len: usize, offset: u64, size: usize) -> u64
     ensures { λ n. ⌜ n ≡ rangeRefusal y r len offset size ⌝ }
@@ -31,10 +42,7 @@ pub fn range_refusal(y: Layout, r: Record, len: usize, offset: u64, size: usize)
     }
     let numbers = numbers::numbers_of(y);
     let capacity = numbers.capacity;
-    if capacity < offset {
-        return 4;
-    }
-    if capacity - offset < size as u64 {
+    if !is_inside(capacity, offset, size as u64) {
         return 4;
     }
     0

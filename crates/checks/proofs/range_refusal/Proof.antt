@@ -1,11 +1,13 @@
 -- `checks::range_refusal` meets its contract: what every call tests first, then the range's two tests.
-use mathlib.Core.Path.{_≡_, sym, _∙_}
-use Prim.Native.Nat.{ℕ, _-_}
-use native.Mathlib.Omega.{arith}
+use mathlib.Core.Path.{_≡_, sym, ap, _∙_}
+use Prim.Native.Nat.{ℕ}
 use borrow.Author.Needs.{needs}
+use borrow.Author.Tests.{not-true, not-false}
+use Rattle.lists.specs.Pick.{pick-true, pick-false}
 use Rattle.lists.specs.Refusal.{refusalBy}
+use Rattle.numbers.specs.Layouts.{capacity}
 use Rattle.pool.specs.Refusals.{rangeTests, rangeRefusal}
-use Rattle.checks.specs.Tests.{refused-first, passed-first, range-beyond, range-long, range-inside}
+use Rattle.checks.specs.Tests.{insideOf, refused-first, passed-first, range-by}
 use Rattle.pool.specs.Asked.{Sound, repair-asked}
 use Rattle.checks.proofs.range_refusal.Statement.{statement}
 use Rattle.checks.proofs.range_refusal.Tie as tie
@@ -28,14 +30,18 @@ own c offset size e = e ∙ sym (passed-first _ _ _ _ (c .before .pool-refusal .
 numbers-of-requires : tie.Need-numbers-of-requires
 numbers-of-requires c κs = sound c .valid
 
+is-inside-requires : tie.Need-is-inside-requires
+is-inside-requires c κs = search needs
+
+-- what `is_inside` answered, of the layout's capacity
+tested : (c : tie.After-is-inside) → c .is-inside .result ≡ insideOf (capacity (c .before .before .before .before .args .y)) (c .before .before .before .before .args .offset) (c .before .before .before .before .args .size)
+tested c = c .is-inside .ensures ∙ ap (λ (n : ℕ). insideOf n (c .before .before .before .before .args .offset) (c .before .before .before .before .args .size)) (c .before .numbers-of .ensures .capacity-is)
+
 returns-2 : tie.Need-returns-2
-returns-2 c = own (c .before .before) _ _ (range-beyond _ _ _ (omega arith))
+returns-2 c = own (c .before .before .before) _ _ (sym (range-by _ _ _ ∙ pick-false _ 0 4 (sym (tested (c .before)) ∙ not-true _ (c .if2 .taken))))
 
 returns-3 : tie.Need-returns-3
-returns-3 c = own (c .before .before .before) _ _ (range-long _ _ _ (omega arith) (omega arith))
-
-returns-4 : tie.Need-returns-4
-returns-4 c = own (c .before .before .before) _ _ (range-inside _ _ _ (omega arith) (omega arith))
+returns-3 c = own (c .before .before .before) _ _ (sym (range-by _ _ _ ∙ pick-true _ 0 4 (sym (tested (c .before)) ∙ not-false _ (c .if2 .left))))
 
 pub range-refusal-spec : {M : Type 1} → statement M
-range-refusal-spec = tie.close (tie.spec pool-refusal-requires returns numbers-of-requires returns-2 returns-3 returns-4)
+range-refusal-spec = tie.close (tie.spec pool-refusal-requires returns numbers-of-requires is-inside-requires returns-2 returns-3)

@@ -27,7 +27,7 @@ use Rattle.lists.specs.Between.{between, between-in}
 use Rattle.lists.specs.Sweep.{byteAfter, upto, upto-none, sweep-step, upto-done}
 use Rattle.survey.specs.Surveyed.{Surveyed, fits, apart}
 use Rattle.survey.specs.Placing.{startOf, groupHere, contentHere, placed}
-use Rattle.pool_write.specs.Columns.{storesAt, storedAt, lays-here, stored-local}
+use Rattle.range_write.specs.Columns.{storesAt, storedAt, lays-here, stored-local}
 
 -- the data bytes of a group
 abbrev pub dataSpan : Layout → ℕ
@@ -81,8 +81,8 @@ underway-start y R img offset bytes s range =
       from-is = refl;
       same = refl;
       done = λ x h.
-          upto-none (allGroups y) (contents y) (y .u) (imageLength y) (startOf y R (R .q)) (groupHere y) (contentHere y R (R .q)) (offsetHere y) (placed y (s .valid) R (R .q) (repaired-few y R (length img) s))
-          (storesAt y R offset (length bytes)) (storedAt y R offset bytes) (offset / dataSpan y) img x;
+          upto-none (allGroups y) (contents y) (y .u) (imageLength y) (startOf y R (R .q)) (groupHere y) (contentHere y R (R .q)) (offsetHere y)
+          (placed y (s .valid) R (R .q) (repaired-few y R (length img) s)) (storesAt y R offset (length bytes)) (storedAt y R offset bytes) (offset / dataSpan y) img x;
     }
 
 module _ (y : Layout) (R : Record) (img₀ : List ℕ) (offset : ℕ) (bytes : List ℕ) (g from : ℕ) (img : List ℕ) (w : Underway y R img₀ offset bytes g from img) where
@@ -127,8 +127,8 @@ module _ (y : Layout) (R : Record) (img₀ : List ℕ) (offset : ℕ) (bytes : L
             same = l .same ∙ w .same;
             done =
                 sweep-step (allGroups y) (contents y) (y .u) (imageLength y) (startOf y R (R .q)) (groupHere y) (contentHere y R (R .q)) (offsetHere y)
-                (placed y (w .sound .valid) R (R .q) (repaired-few y R (length img₀) (w .sound))) (storesAt y R offset (length bytes)) (storedAt y R offset bytes) (offset / dataSpan y) g (w .first) group-inside
-                img₀ img img′
+                (placed y (w .sound .valid) R (R .q) (repaired-few y R (length img₀) (w .sound))) (storesAt y R offset (length bytes)) (storedAt y R offset bytes)
+                (offset / dataSpan y) g (w .first) group-inside img₀ img img′
                 (λ c o hc ho. stored-local y v R (w .sound .good) g P s from (w .from-is) offset bytes img img₀ c o)
                 (w .sound .len-is) (w .same) (w .done)
                 (lays-here y v R (w .sound .good) g P s from (w .from-is) offset bytes img img′ l);
