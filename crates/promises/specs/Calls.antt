@@ -1,10 +1,10 @@
 -- Demand 3 of the calls themselves. Here a run is told by the promises alone: after each call the state is one that the call's promise allows. There is
 -- one such state, the one that `step` names; so demand 3 holds after any run of any programs that keep these promises, and every outcome that a
 -- promise allows there shows the current file and changes no more than demand 3 says.
-use mathlib.Core.Path.{_≡_, refl, sym, ap, _∙_, subst⁻¹}
+use mathlib.Core.Path.{_≡_, refl, sym, ap, _∙_, subst, subst⁻¹}
 use mathlib.Core.Logic.{_⊎_}
 use mathlib.Core.Bool.{false}
-use mathlib.Core.List.{List, [], _∷_}
+use mathlib.Core.List.{List, [], _∷_, _++_}
 use Prim.Native.Nat.{ℕ, _<_}
 use lib.ListN.{length}
 use Rattle.lists.specs.Tabulate.{at, tabulate, zeros, length-tabulate}
@@ -23,14 +23,21 @@ use Rattle.pool.specs.Scribbling.{scribbled}
 use Rattle.pool.specs.ScribbleHolds.{scribble-any}
 use Rattle.pool.specs.Changes.{Written, Mended}
 use Rattle.pool.specs.Calls.{Reads, Writes, Fails, Repairs, Prepares, Shows}
-use Rattle.promises.specs.Runs.{Event, write, fail, repair, read, look, scribble, State, start, step, run, laidOn}
+use Rattle.pool_list.specs.Ranges.{laidRanges, WritesList}
+use Rattle.pool_list.specs.Kept.{WrittenByOne}
+use Rattle.promises.specs.Runs.{Event, write, writeList, fail, repair, read, look, scribble, State, start, step, run, laidOn}
+use Rattle.promises.specs.RunLaws.{started, ran}
 use Rattle.promises.specs.Demand3.{Right, demand-3, file-of-run}
 
 -- s′ is a state that an event may leave, by the call's promise: n is the number that the call answers, 0 where the call is accepted. What a promise says
--- nothing of was not lent to be changed, and stays. The current file has the bytes of a write laid on where it is accepted
+-- nothing of was not lent to be changed, and stays. The current file has the bytes of a write laid on where it is accepted, and of
+-- an accepted list those of each range, in order
 abbrev pub Leaves : Layout → State → Event → State → Type 0
 Leaves y s (write offset bytes ok) s′ =
     (n : ℕ) × Writes y (s .rec) (s .img) offset bytes n (s′ .img) × (s′ .rec ≡ s .rec) × (s′ .file ≡ grant n (written (s .file) offset bytes) (s .file))
+Leaves y s (writeList ranges bytes ok) s′ =
+    (n : ℕ) × (range : ℕ) × WritesList y (s .rec) (s .img) ranges bytes n range (s′ .img) × (s′ .rec ≡ s .rec)
+    × (s′ .file ≡ grant n (laidRanges (s .file) ranges bytes (length ranges)) (s .file))
 Leaves y s (fail target) s′ = (n : ℕ) × Fails y (s .rec) (s .img) target n (s′ .rec) × (s′ .img ≡ s .img) × (s′ .file ≡ s .file)
 Leaves y s repair s′ = (n : ℕ) × (count : ℕ) × Repairs y (s .rec) (s .img) n count (s′ .rec) (s′ .img) × (s′ .file ≡ s .file)
 Leaves y s (read offset size) s′ = (n : ℕ) × (out : List ℕ) × Reads y (s .rec) (s .img) offset size n out × (s′ ≡ s)
@@ -50,16 +57,29 @@ pub leaves-step : (y : Layout) (s : State) (e : Event) (s′ : State) → Leaves
 unfolding step
 leaves-step y s (write offset bytes ok) s′ p =
     λ i. record { rec = p .2 i; img = p .1 .image i; file = (p .3 ∙ ap (λ (n : ℕ). grant n (written (s .file) offset bytes) (s .file)) (p .1 .answer)) i }
+leaves-step y s (writeList ranges bytes ok) s′ p =
+    λ i.
+    record {
+      rec = p .3 i;
+      img = p .2 .image i;
+      file = (p .4 ∙ ap (λ (n : ℕ). grant n (laidRanges (s .file) ranges bytes (length ranges)) (s .file)) (p .2 .answer)) i;
+    }
 leaves-step y s (fail target) s′ p = λ i. record { rec = p .1 .rec i; img = p .2 i; file = p .3 i }
 leaves-step y s repair s′ p = λ i. record { rec = p .2 .rec i; img = p .2 .image i; file = p .3 i }
 leaves-step y s (read offset size) s′ p = p .3
 leaves-step y s (look room group content) s′ p = p .6
 leaves-step y s (scribble ink) s′ p = λ i. record { rec = p .0 i; img = p .1 i; file = p .2 i }
 
+-- one event more
+pub reaches-more : (y : Layout) (es : List Event) (e : Event) (s s′ s″ : State) → Reaches y s es s′ → Leaves y s′ e s″ → Reaches y s (es ++ (e ∷ [])) s″
+reaches-more y [] e s s′ s″ p l = (s″, subst (λ (t : State). Leaves y t e s″) p l, refl)
+reaches-more y (d ∷ es) e s s′ s″ p l = (p .0, p .1, reaches-more y es e (p .0) s′ s″ (p .2) l)
+
 -- there is one: what `step` names keeps the promises
 pub step-leaves : (y : Layout) (s : State) (e : Event) → Leaves y s e (step y s e)
 unfolding step
 step-leaves y s (write offset bytes ok) = (_, record { answer = refl; image = refl }, refl, refl)
+step-leaves y s (writeList ranges bytes ok) = (_, _, record { answer = refl; first = refl; image = refl }, refl, refl)
 step-leaves y s (fail target) = (_, record { answer = refl; rec = refl }, refl, refl)
 step-leaves y s repair = (_, _, record { answer = refl; pairs = refl; rec = refl; image = refl }, refl)
 step-leaves y s (read offset size) = (_, _, record { answer = refl; bytes = refl }, refl)
@@ -91,6 +111,9 @@ pub record OutcomesRight (y : Layout) (s : State) : Type 0 where
   -- "A write changes only the bytes it names and the parity bytes at the same unit offsets in the same groups"
   pub write-changes-only : (offset : ℕ) (bytes : List ℕ) (n : ℕ) (img′ : List ℕ) → Writes y (s .rec) (s .img) offset bytes n img′
       → (x : ℕ) → x < length (s .img) → (at img′ x ≡ at (s .img) x) ⊎ Written y (s .rec) offset (length bytes) x
+  -- and a list of writes what its writes change
+  pub list-changes-only : (ranges : List (List ℕ)) (bytes : List ℕ) (n range : ℕ) (img′ : List ℕ) → WritesList y (s .rec) (s .img) ranges bytes n range img′
+      → (x : ℕ) → x < length (s .img) → (at img′ x ≡ at (s .img) x) ⊎ WrittenByOne y (s .rec) ranges x
   -- "a repair changes only the new homes of units that were missing", and leaves none missing
   pub repair-changes-only : (n count : ℕ) (R′ : Record) (img′ : List ℕ) → Repairs y (s .rec) (s .img) n count R′ img′
       → (x : ℕ) → x < length (s .img) → (at img′ x ≡ at (s .img) x) ⊎ Mended y (s .rec) x
@@ -115,6 +138,8 @@ outcomes-right y s r =
           );
       write-changes-only = λ offset bytes n img′ p x h.
           subst⁻¹ (λ (l : List ℕ). (at l x ≡ at (s .img) x) ⊎ Written y (s .rec) offset (length bytes) x) (p .image) (r .write-only offset bytes x h);
+      list-changes-only = λ ranges bytes n range img′ p x h.
+          subst⁻¹ (λ (l : List ℕ). (at l x ≡ at (s .img) x) ⊎ WrittenByOne y (s .rec) ranges x) (p .image) (r .list-only ranges bytes x h);
       repair-changes-only = λ n count R′ img′ p x h. subst⁻¹ (λ (l : List ℕ). (at l x ≡ at (s .img) x) ⊎ Mended y (s .rec) x) (p .image) (r .repair-only x h);
       repair-leaves-none = λ n count R′ img′ p g c h. ap (λ (S : Record). missing y S g c) (p .rec) ∙ r .repaired g c h;
     }
@@ -128,3 +153,7 @@ module _ (y : Layout) (valid : Valid y) (room : List ℕ) (three : length room �
   -- "that file: zeros, with the accepted writes laid on in order"
   pub file-of-calls : s .file ≡ laidOn y (zeros (capacity y)) es
   file-of-calls = ap (λ (m : State). m .file) (reaches-run y es (start y room) s p) ∙ file-of-run y valid room three es
+
+  pub file-length : length (s .file) ≡ capacity y
+  file-length =
+      ap (λ (m : State). length (m .file)) (reaches-run y es (start y room) s p) ∙ ran y valid es (start y room) (started y valid room three) .holds .file-length

@@ -24,6 +24,8 @@ use Rattle.pool.specs.Holds.{read-right}
 use Rattle.pool.specs.RepairHolds.{all-repaired}
 use Rattle.pool.specs.LookHolds.{look-right}
 use Rattle.pool.specs.Changes.{Written, Mended, write-changes, repair-changes}
+use Rattle.pool_list.specs.Ranges.{listImage}
+use Rattle.pool_list.specs.Kept.{WrittenByOne, list-changes}
 use Rattle.promises.specs.Runs.{Event, State, start, run, laidOn}
 use Rattle.promises.specs.RunLaws.{Inside, inside-sound, started, ran, laid}
 
@@ -40,6 +42,9 @@ pub record Right (y : Layout) (s : State) : Type 0 where
   -- "A write changes only the bytes it names and the parity bytes at the same unit offsets in the same groups"
   pub write-only : (offset : ℕ) (bytes : List ℕ) (x : ℕ) → x < length (s .img)
       → (at (writeImage y (s .rec) (s .img) offset bytes) x ≡ at (s .img) x) ⊎ Written y (s .rec) offset (length bytes) x
+  -- and a list of writes what its writes change
+  pub list-only : (ranges : List (List ℕ)) (bytes : List ℕ) (x : ℕ) → x < length (s .img)
+      → (at (listImage y (s .rec) (s .img) ranges bytes) x ≡ at (s .img) x) ⊎ WrittenByOne y (s .rec) ranges x
   -- "a repair changes only the new homes of units that were missing"
   pub repair-only : (x : ℕ) → x < length (s .img) → (at (repairImage y (s .rec) (s .img)) x ≡ at (s .img) x) ⊎ Mended y (s .rec) x
   -- and after it nothing is missing
@@ -54,6 +59,7 @@ right y v s a =
       shown = read-right y (s .rec) (s .img) (s .file) (a .holds);
       looked = look-right y (s .rec) (s .img) (s .file) (a .holds);
       write-only = write-changes y (s .rec) (s .img);
+      list-only = λ ranges bytes. list-changes y (s .rec) ranges bytes (s .img);
       repair-only = repair-changes y (s .rec) (s .img);
       repaired = λ g c h. all-repaired y (s .rec) (length (s .img)) (inside-sound y v s a) g c h;
       accepted = sound-passes y (s .rec) (length (s .img)) (inside-sound y v s a);

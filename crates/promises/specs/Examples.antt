@@ -31,11 +31,11 @@ use Rattle.homes.specs.Missing.{home, missing}
 use Rattle.pool.specs.Refusals.{failRefusal}
 use Rattle.pool.specs.Failing.{failRecord}
 
-abbrev layout : ℕ → ℕ → ℕ → ℕ → ℕ → ℕ → Layout
+abbrev pub layout : ℕ → ℕ → ℕ → ℕ → ℕ → ℕ → Layout
 layout n k p u t cookie = record { n = n; k = k; p = p; u = u; t = t; cookie = cookie }
 
 -- "N=1 K=1 P=4 U=4 T=1 cookie 0"
-abbrev small : Layout
+abbrev pub small : Layout
 small = layout 1 1 4 4 1 0
 
 abbrev four : Layout → List ℕ
@@ -48,7 +48,7 @@ abbrev three : Layout → ℕ → List Place
 three y g = placeOf y g 0 ∷ placeOf y g 1 ∷ placeOf y g 2 ∷ []
 
 -- an empty failure list, and that with target 3 failed
-abbrev none : Record
+abbrev pub none : Record
 none = record { failed = 0 ∷ 0 ∷ 0 ∷ []; k = 0; q = 0 }
 
 abbrev failed3 : Record

@@ -13,5 +13,7 @@ pub mod Tight
 pub mod Catalogue
 pub mod HexLine
 pub mod PoolText
+pub mod WriteList
 pub mod Examples
 pub mod TextExamples
+pub mod ListExamples

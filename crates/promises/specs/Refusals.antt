@@ -1,8 +1,8 @@
 -- Demand 1: each public call "answers with the lowest refusal number of document 01 that applies": of its tests, each with its number, the
 -- lowest number of one that fails, and 0 only where none fails. "A refused read, listing, look or hex line fills its output with zeros; any other
 -- refused call changes no byte and no record", and its numbers are 0. Said of the answers themselves: of the answer that the promise of a call equates
--- with, or of any outcome that its promise allows. The calls of one group, the catalogue, the hex line
--- and a pool as text, whose reader "counts as a read for demand 1", have theirs in `Parity`, `Catalogue`, `HexLine`, `PoolText`.
+-- with, or of any outcome that its promise allows. The calls of one group, the catalogue, the hex line, a pool as text, whose reader "counts as a read
+-- for demand 1", and a list of writes have theirs in `Parity`, `Catalogue`, `HexLine`, `PoolText`, `WriteList`.
 use mathlib.Core.Path.{_≡_, refl, sym, ap, _∙_, subst⁻¹}
 use mathlib.Core.Logic.{⊎-elim}
 use mathlib.Core.Bool.{Bool, true, false, not}
@@ -179,7 +179,7 @@ module _ (y : Layout) where
   lookTable room group content = (ltb group (allGroups y), 4) ∷ (ltb content (contents y), 4) ∷ (eqb room (y .u), 5) ∷ []
 
 module _ (y : Layout) (R : Record) where
-  abbrev poolTable : ℕ → List (Bool × ℕ) → List (Bool × ℕ)
+  abbrev pub poolTable : ℕ → List (Bool × ℕ) → List (Bool × ℕ)
   poolTable len own = (validb y, 1) ∷ (eqb len (imageLength y), 2) ∷ (recordGood y R, 3) ∷ own
 
   -- the second step of a look that answers a place: it is lent lengths alone

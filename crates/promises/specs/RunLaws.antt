@@ -22,7 +22,10 @@ use Rattle.pool.specs.FailHolds.{Kept, fail-right, fail-kept}
 use Rattle.pool.specs.RepairHolds.{repair-right, repair-kept}
 use Rattle.pool.specs.ScribbleHolds.{scribble-right}
 use Rattle.pool.specs.Blind.{Agree, write-agree, fail-agree, repair-agree, scribble-agree}
-use Rattle.promises.specs.Runs.{Event, write, fail, repair, read, look, scribble, State, start, step, run, laidOn, reinked, reink}
+use Rattle.pool_list.specs.Ranges.{listTests, listRefusal, laidRanges}
+use Rattle.pool_list.specs.Kept.{list-agree}
+use Rattle.pool_list.specs.Laid.{list-right}
+use Rattle.promises.specs.Runs.{Event, write, writeList, fail, repair, read, look, scribble, State, start, step, run, laidOn, reinked, reink}
 
 pub record Inside (y : Layout) (s : State) : Type 0 where
   pub kept : Kept y (s .rec)
@@ -49,6 +52,8 @@ stepped y v s a (write offset bytes ok) =
           (λ z. write-right y (s .rec) (s .img) (s .file) (a .holds) offset bytes ok z)
           (λ z. subst (λ (i : List ℕ). Holds y (s .rec) i (s .file)) (sym (write-refused y (s .rec) (s .img) offset bytes z)) (a .holds));
     }
+stepped y v s a (writeList ranges bytes ok) =
+    record { kept = a .kept; holds = list-right ranges bytes ok y (s .rec) (s .img) (s .file) (a .holds) }
 stepped y v s a (fail target) =
     record {
       kept = fail-kept y (s .rec) (length (s .img)) target (a .kept);
@@ -69,12 +74,16 @@ ran y v (e ∷ es) s a = ran y v es (step y s e) (stepped y v s a e)
 -- ---- the file of a run is that of its writes
 
 pub laid : (y : Layout) → Valid y → (es : List Event) (s : State) → Inside y s → run y s es .file ≡ laidOn y (s .file) es
-unfolding run laidOn step rangeRefusal
+unfolding run laidOn step rangeRefusal listRefusal
 laid y v [] s a = refl
 laid y v (write offset bytes ok ∷ es) s a =
     laid y v es (step y s (write offset bytes ok)) (stepped y v s a (write offset bytes ok))
     ∙ ap (λ (n : ℕ). laidOn y (grant n (written (s .file) offset bytes) (s .file)) es)
     (sound-passes y (s .rec) (length (s .img)) (inside-sound y v s a) (rangeTests y offset (length bytes)))
+laid y v (writeList ranges bytes ok ∷ es) s a =
+    laid y v es (step y s (writeList ranges bytes ok)) (stepped y v s a (writeList ranges bytes ok))
+    ∙ ap (λ (n : ℕ). laidOn y (grant n (laidRanges (s .file) ranges bytes (length ranges)) (s .file)) es)
+    (sound-passes y (s .rec) (length (s .img)) (inside-sound y v s a) (listTests y ranges (length bytes)))
 laid y v (fail target ∷ es) s a = laid y v es (step y s (fail target)) (stepped y v s a (fail target))
 laid y v (repair ∷ es) s a = laid y v es (step y s repair) (stepped y v s a repair)
 laid y v (read offset size ∷ es) s a = laid y v es s a
@@ -99,6 +108,12 @@ twin-step y v s i img′ a ink (write offset bytes ok) =
       rec = refl;
       file = ap (λ (n : ℕ). grant (rangeRefusal y (s .rec) n offset (length bytes)) (written (s .file) offset bytes) (s .file)) (a .same-length);
       agree = write-agree y (s .rec) (s .img) img′ a offset bytes;
+    }
+twin-step y v s i img′ a ink (writeList ranges bytes ok) =
+    record {
+      rec = refl;
+      file = ap (λ (n : ℕ). grant (listRefusal y (s .rec) n ranges (length bytes)) (laidRanges (s .file) ranges bytes (length ranges)) (s .file)) (a .same-length);
+      agree = list-agree y (s .rec) ranges bytes (s .img) img′ a;
     }
 twin-step y v s i img′ a ink (fail target) =
     record { rec = ap (λ (n : ℕ). failRecord y (s .rec) n target) (a .same-length); file = refl; agree = fail-agree y (s .rec) (s .img) img′ a target }

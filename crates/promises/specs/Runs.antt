@@ -1,6 +1,6 @@
 -- What demand 3 speaks of: events, the state of a pool, and runs. "Start with a pool of zeros and an empty failure list. Make any run of calls, each
 -- given the same layout and the record the last one returned: writes, drive failures up to K, repairs, reads, refused ones of these among them,
--- while others scribble on failed drives only."
+-- while others scribble on failed drives only." A list of writes in one call (document 02, order 2) is a call of such a run too.
 use mathlib.Core.List.{List, [], _∷_}
 use Prim.Native.Nat.{ℕ, suc, _<_}
 use lib.ListN.{length}
@@ -15,11 +15,13 @@ use Rattle.pool.specs.Failing.{failRecord}
 use Rattle.pool.specs.Repairing.{repairImage, repairRecord}
 use Rattle.pool.specs.Files.{written}
 use Rattle.pool.specs.Scribbling.{scribbled}
+use Rattle.pool_list.specs.Ranges.{listTests, listRefusal, listImage, laidRanges}
 
--- an event: a call with any arguments (the bytes of a write are bytes, the buffer of a read and the scratch of a look have any length), or others
--- scribbling: `ink x` is what they would put at image byte x. No event fills an image from a text (`PoolText`)
+-- an event: a call with any arguments (the bytes of a write and of a list are bytes, the buffer of a read and the scratch of a look have any length),
+-- or others scribbling: `ink x` is what they would put at image byte x. No event fills an image from a text (`PoolText`)
 pub data Event : Type 0 where
   write : (offset : ℕ) (bytes : List ℕ) → ((i : ℕ) → i < length bytes → at bytes i < 256) → Event
+  writeList : (ranges : List (List ℕ)) (bytes : List ℕ) → ((i : ℕ) → i < length bytes → at bytes i < 256) → Event
   fail : (target : ℕ) → Event
   repair : Event
   read : (offset size : ℕ) → Event
@@ -44,6 +46,12 @@ step y s (write offset bytes ok) =
       img = writeImage y (s .rec) (s .img) offset bytes;
       file = grant (rangeRefusal y (s .rec) (length (s .img)) offset (length bytes)) (written (s .file) offset bytes) (s .file);
     }
+step y s (writeList ranges bytes ok) =
+    record {
+      rec = s .rec;
+      img = listImage y (s .rec) (s .img) ranges bytes;
+      file = grant (listRefusal y (s .rec) (length (s .img)) ranges (length bytes)) (laidRanges (s .file) ranges bytes (length ranges)) (s .file);
+    }
 step y s (fail target) = record { rec = failRecord y (s .rec) (length (s .img)) target; img = s .img; file = s .file }
 step y s repair = record { rec = repairRecord y (s .rec) (length (s .img)); img = repairImage y (s .rec) (s .img); file = s .file }
 step y s (read offset size) = s
@@ -54,10 +62,12 @@ unfoldable pub run : Layout → State → List Event → State
 run y s [] = s
 run y s (e ∷ es) = run y (step y s e) es
 
--- the file that a run leaves, told by its writes alone: each whose range is inside is laid on, in order
+-- the file that a run leaves, told by its writes alone: each whose range is inside is laid on, in order; of a list that its own tests accept, each range
 unfoldable pub laidOn : Layout → List ℕ → List Event → List ℕ
 laidOn y file [] = file
 laidOn y file (write offset bytes ok ∷ es) = laidOn y (grant (refusalBy (rangeTests y offset (length bytes))) (written file offset bytes) file) es
+laidOn y file (writeList ranges bytes ok ∷ es) =
+    laidOn y (grant (refusalBy (listTests y ranges (length bytes))) (laidRanges file ranges bytes (length ranges)) file) es
 laidOn y file (fail target ∷ es) = laidOn y file es
 laidOn y file (repair ∷ es) = laidOn y file es
 laidOn y file (read offset size ∷ es) = laidOn y file es
@@ -67,6 +77,7 @@ laidOn y file (scribble ink ∷ es) = laidOn y file es
 -- the same events, with other ink in each scribble
 unfoldable pub reinked : (ℕ → ℕ) → Event → Event
 reinked ink (write offset bytes ok) = write offset bytes ok
+reinked ink (writeList ranges bytes ok) = writeList ranges bytes ok
 reinked ink (fail target) = fail target
 reinked ink repair = repair
 reinked ink (read offset size) = read offset size
