@@ -17,6 +17,7 @@ use layout::Traced;
 use numbers::Layout;
 use place::Unit;
 use pool_fail::Failed;
+use pool_list::ListWritten;
 use pool_look::Shown;
 use pool_repair::Repaired;
 use pool_text::TextRead;
@@ -30,6 +31,7 @@ ghost use Rattle.layout.specs.Walk.{stepOf};
 ghost use Rattle.group.specs.Encode.{Encodes};
 ghost use Rattle.group.specs.Rebuild.{Rebuilding};
 ghost use Rattle.pool.specs.Calls.{Fails, Reads, Writes, Repairs, Prepares};
+ghost use Rattle.pool_list.specs.Ranges.{WritesList};
 ghost use Rattle.entries.specs.Promise.{Lookup, Insert, Delete, Listing};
 ghost use Rattle.hexline.specs.HexLine.{HexLine};
 ghost use Rattle.pool_text.specs.TextCalls.{WritesText, ReadsText};
@@ -177,6 +179,19 @@ pub extern "C" fn splicebell_write(
     ensures { λ n. ⌜ Writes y r (now (image .entry)) offset (now (bytes .entry)) n (now (image .exit)) ⌝ }
 {
     pool_write::write(y, r, image, offset, bytes)
+}
+
+#[no_mangle]
+pub extern "C" fn splicebell_write_list(
+    y: Layout,
+    r: Record,
+    image: &mut [u8],
+    ranges: &[[u64; 2]],
+    bytes: &[u8],
+) -> ListWritten
+    ensures { λ x. ⌜ WritesList y r (now (image .entry)) (now (ranges .entry)) (now (bytes .entry)) (x .refusal) (x .range) (now (image .exit)) ⌝ }
+{
+    pool_list::write_list(y, r, image, ranges, bytes)
 }
 
 #[no_mangle]
