@@ -1,55 +1,27 @@
 // A row's pool by mail: written as text, read back, and damaged on its way in the ways listed below.
 // The row is that of `morning`; its pool is 20 lines of 27 characters, so that all of it can be shown.
-use homes::Record;
 use numbers::Layout;
+use row_trial::no_failures;
+use row_trial::put;
+use row_trial::row;
+use row_trial::row_of;
+use trial::answer;
 use trial::decimal;
+use trial::say_same;
+use trial::set_all;
 use trial::text;
-
-// Two data units, one parity unit and one spare a group, over five drives.
-fn row_of(u: u64, t: u64) -> Layout {
-    Layout {
-        n: 2,
-        k: 1,
-        p: 5,
-        u: u,
-        t: t,
-        cookie: 7,
-    }
-}
-
-fn row() -> Layout {
-    row_of(8, 1)
-}
 
 // ---- bytes
 
 // What is lent to be filled, before a call: to see that all of it is written.
 fn blur(bytes: &mut [u8]) {
-    let mut i = 0;
-    while i < bytes.len() {
-        bytes[i] = 170;
-        i += 1;
-    }
+    set_all(bytes, 170);
 }
 
 fn is_zeros(bytes: &[u8]) -> bool {
     let mut i = 0;
     while i < bytes.len() {
         if bytes[i] != 0 {
-            return false;
-        }
-        i += 1;
-    }
-    true
-}
-
-fn is_same(a: &[u8], b: &[u8]) -> bool {
-    if a.len() != b.len() {
-        return false;
-    }
-    let mut i = 0;
-    while i < a.len() {
-        if a[i] != b[i] {
             return false;
         }
         i += 1;
@@ -83,34 +55,17 @@ fn say_zeros(what: &[u8], bytes: &[u8]) {
     text(b" is NOT zeros\n");
 }
 
-fn say_same(a: &[u8], b: &[u8]) {
-    if is_same(a, b) {
-        text(b"the same image\n");
-        return;
-    }
-    text(b"ANOTHER image\n");
-}
-
-fn say_refusal(refusal: u64) {
-    if refusal == 0 {
-        text(b"done");
-        return;
-    }
-    text(b"refused with ");
-    decimal(refusal);
-}
-
 // ---- one call and its answer
 
 // Opens a letter that must be refused.
 fn refused(what: &[u8], y: Layout, letter: &[u8], image: &mut [u8]) {
     blur(image);
-    let answer = pool_text::read_text(y, letter, image);
+    let opened = pool_text::read_text(y, letter, image);
     text(what);
     text(b": ");
-    say_refusal(answer.refusal);
+    answer(opened.refusal);
     text(b", line ");
-    decimal(answer.line);
+    decimal(opened.line);
     text(b"; ");
     say_zeros(b"the image", image);
 }
@@ -121,7 +76,7 @@ fn unwritten(what: &[u8], y: Layout, image: &[u8], letter: &mut [u8]) {
     let refusal = pool_text::write_text(y, image, letter);
     text(what);
     text(b": ");
-    say_refusal(refusal);
+    answer(refusal);
     text(b"; ");
     say_zeros(b"the text", letter);
 }
@@ -282,26 +237,22 @@ fn texts_that_do_not_fit(image: &[u8]) {
 
 // A photograph, a weight and another photograph.
 fn stored(image: &mut [u8]) {
-    let empty = Record {
-        failed: [0u64; 3],
-        k: 0,
-        q: 0,
-    };
-    pool_write::write(row(), empty, image, 0, b"a brown bag with one strap");
-    pool_write::write(row(), empty, image, 26, b"23.4 kg");
-    pool_write::write(row(), empty, image, 33, b"a red case, its label torn");
+    let empty = no_failures();
+    put(empty, image, 0, b"a brown bag with one strap");
+    put(empty, image, 26, b"23.4 kg");
+    put(empty, image, 33, b"a red case, its label torn");
 }
 
 fn there_and_back(image: &[u8], letter: &mut [u8]) {
     let refusal = pool_text::write_text(row(), image, letter);
     text(b"The row is written as text: ");
-    say_refusal(refusal);
+    answer(refusal);
     text(b"\n");
     text(letter);
     let mut back = [170u8; 160];
-    let answer = pool_text::read_text(row(), letter, &mut back);
+    let opened = pool_text::read_text(row(), letter, &mut back);
     text(b"It is read back: ");
-    say_refusal(answer.refusal);
+    answer(opened.refusal);
     text(b", ");
     say_same(&back, image);
 }

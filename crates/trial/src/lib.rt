@@ -68,6 +68,54 @@ pub fn newline() {
     io::write_all(STDOUT_FILENO, b"\n");
 }
 
+// A call's answer by its refusal number.
+pub fn answer(refusal: u64) {
+    if refusal == 0 {
+        text(b"done");
+        return;
+    }
+    text(b"refused with ");
+    decimal(refusal);
+}
+
+pub fn answer_line(refusal: u64) {
+    answer(refusal);
+    newline();
+}
+
+// ---- runs of bytes
+
+pub fn set_all(bytes: &mut [u8], value: u8) {
+    let mut i = 0;
+    while i < bytes.len() {
+        bytes[i] = value;
+        i += 1;
+    }
+}
+
+pub fn is_same(a: &[u8], b: &[u8]) -> bool {
+    if a.len() != b.len() {
+        return false;
+    }
+    let mut i = 0;
+    while i < a.len() {
+        if a[i] != b[i] {
+            return false;
+        }
+        i += 1;
+    }
+    true
+}
+
+// Whether two images are the same, in words.
+pub fn say_same(a: &[u8], b: &[u8]) {
+    if is_same(a, b) {
+        text(b"the same image\n");
+        return;
+    }
+    text(b"ANOTHER image\n");
+}
+
 // ---- checksums
 
 pub fn checksum(bytes: &[u8]) -> u64 {

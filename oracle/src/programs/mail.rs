@@ -1,14 +1,10 @@
 //! `mail`: a row's pool as text, read back, and damaged on its way.
 
-use super::line;
-use crate::layout::{layout, Layout};
+use super::row::row;
+use super::{answered, line};
+use crate::layout::Layout;
 use crate::pool::{write, Record};
 use crate::pool_text::{read_text, text_length, write_text};
-
-/// The row of `morning`, with other units and tiles where they are named.
-fn row(u: u64, t: u64) -> Layout {
-    layout(2, 1, 5, u, t, 7)
-}
 
 /// The whole output.
 pub fn output() -> String {
@@ -33,11 +29,6 @@ pub fn output() -> String {
 }
 
 fn stored(shape: &Layout) -> Vec<u8> {
-    let empty = Record {
-        failed: [0; 3],
-        k: 0,
-        q: 0,
-    };
     let mut image = vec![0; shape.derived().image as usize];
     let mut offset = 0;
     for thing in [
@@ -46,7 +37,13 @@ fn stored(shape: &Layout) -> Vec<u8> {
         "a red case, its label torn",
     ] {
         assert_eq!(
-            write(shape, &empty, &mut image, offset, thing.as_bytes()),
+            write(
+                shape,
+                &Record::default(),
+                &mut image,
+                offset,
+                thing.as_bytes()
+            ),
             0
         );
         offset += thing.len() as u64;
@@ -58,13 +55,6 @@ fn text_of(shape: &Layout, image: &[u8]) -> Vec<u8> {
     let mut text = vec![0xAA; text_length(shape) as usize];
     assert_eq!(write_text(shape, image, &mut text), 0);
     text
-}
-
-fn answered(refusal: u64) -> String {
-    match refusal {
-        0 => "done".to_string(),
-        number => format!("refused with {number}"),
-    }
 }
 
 fn zeros(bytes: &[u8]) -> &'static str {

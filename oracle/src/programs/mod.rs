@@ -10,6 +10,8 @@ pub mod mail;
 pub mod morning;
 pub mod pool_runs;
 pub mod products;
+mod row;
+pub mod session;
 
 /// Writes one formatted line into a string.
 macro_rules! line {
@@ -21,7 +23,7 @@ macro_rules! line {
 pub(crate) use line;
 
 /// The programs by name.
-pub const NAMES: [&str; 9] = [
+pub const NAMES: [&str; 10] = [
     "examples",
     "layouts",
     "products",
@@ -31,6 +33,7 @@ pub const NAMES: [&str; 9] = [
     "pool_runs",
     "morning",
     "mail",
+    "session",
 ];
 
 /// The expected output of the program of this name.
@@ -45,7 +48,16 @@ pub fn expected(name: &str) -> Option<String> {
         "pool_runs" => Some(pool_runs::output()),
         "morning" => Some(morning::output()),
         "mail" => Some(mail::output()),
+        "session" => Some(session::output()),
         _ => None,
+    }
+}
+
+/// A refusal number in words.
+pub(crate) fn answered(refusal: u64) -> String {
+    match refusal {
+        0 => "done".to_string(),
+        number => format!("refused with {number}"),
     }
 }
 

@@ -1,33 +1,18 @@
 //! `morning`: a kiosk's morning in words and hex lines.
 
-use super::line;
+use super::row::{wipe, Row};
+use super::{answered, line};
 use crate::hexline::hex_line;
-use crate::layout::{layout, Layout};
-use crate::pool::{fail, read, repair, write, Record};
-
-/// A row of five drives in the course of a morning.
-struct Row {
-    layout: Layout,
-    record: Record,
-    image: Vec<u8>,
-    out: String,
-}
+use crate::pool::{read, write};
 
 /// The whole output.
 pub fn output() -> String {
-    let shape = layout(2, 1, 5, 8, 1, 7);
-    let mut row = Row {
-        layout: shape,
-        record: Record { failed: [0; 3], k: 0, q: 0 },
-        image: vec![0; shape.derived().image as usize],
-        out: String::new(),
-    };
+    let mut row = Row::new();
     row.store(&photograph(24, 0), 0);
     row.store(&photograph(20, 7), 24);
     row.drives("The drives before the rush:");
     row.lose(2);
-    let drive = row.image.len() / 5;
-    row.image[2 * drive..3 * drive].fill(255);
+    wipe(&mut row.image, 2);
     row.show(24, 0);
     row.store(&photograph(30, 13), 40);
     row.lose(2);
@@ -43,13 +28,6 @@ pub fn output() -> String {
 /// Letters of the alphabet from the given one on.
 fn photograph(length: usize, first: usize) -> Vec<u8> {
     (0..length).map(|i| b'a' + ((i + first) % 26) as u8).collect()
-}
-
-fn answered(refusal: u64) -> String {
-    match refusal {
-        0 => "done".to_string(),
-        number => format!("refused with {number}"),
-    }
 }
 
 fn words(bytes: &[u8]) -> String {
@@ -68,18 +46,6 @@ impl Row {
         let refusal = read(&self.layout, &self.record, &self.image, offset, &mut bytes);
         let shown = if refusal == 0 { format!("{}, ", words(&bytes)) } else { String::new() };
         line!(self.out, "The claims desk reads {length} bytes at {offset}: {shown}{}", answered(refusal));
-    }
-
-    fn lose(&mut self, target: u64) {
-        let (refusal, record) = fail(&self.layout, &self.record, &self.image, target);
-        self.record = record;
-        line!(self.out, "Drive {target} dies: {}", answered(refusal));
-    }
-
-    fn mend(&mut self) {
-        let (refusal, record, count) = repair(&self.layout, &self.record, &mut self.image);
-        self.record = record;
-        line!(self.out, "The row is repaired: {count} units were missing, {}", answered(refusal));
     }
 
     fn drives(&mut self, title: &str) {

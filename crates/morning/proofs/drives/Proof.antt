@@ -5,16 +5,16 @@ use Rattle.morning.proofs.drives.Statement.{statement}
 use Rattle.morning.proofs.drives.Tie as tie
 
 abbrev Inv-loop2 : tie.InvT-loop2
-Inv-loop2 y image target frame₀ frame = frame ≤ 4
+Inv-loop2 image target frame₀ frame = frame ≤ 4
 
 abbrev μ-loop2 : tie.MeasureT-loop2
-μ-loop2 y image target frame₀ frame = 4 - frame
+μ-loop2 image target frame₀ frame = 4 - frame
 
 abbrev Inv-loop : tie.InvT-loop
-Inv-loop y image target₀ target = target ≤ 5
+Inv-loop image target₀ target = target ≤ 5
 
 abbrev μ-loop : tie.MeasureT-loop
-μ-loop y image target₀ target = 5 - target
+μ-loop image target₀ target = 5 - target
 
 loop-holds : tie.Need-loop-holds Inv-loop2 μ-loop2 Inv-loop μ-loop
 loop-holds c = search needs
@@ -22,17 +22,8 @@ loop-holds c = search needs
 loop2-holds : tie.Need-loop2-holds Inv-loop2 μ-loop2 Inv-loop μ-loop
 loop2-holds c = search needs
 
-slice-aggregate-hex-line : tie.Need-slice-aggregate-hex-line Inv-loop2 μ-loop2 Inv-loop μ-loop
-slice-aggregate-hex-line c = search needs
-
 hex-line-requires : tie.Need-hex-line-requires Inv-loop2 μ-loop2 Inv-loop μ-loop
 hex-line-requires c κs = search needs
-
-slice-aggregate-text : tie.Need-slice-aggregate-text Inv-loop2 μ-loop2 Inv-loop μ-loop
-slice-aggregate-text c = search needs
-
-text-requires : tie.Need-text-requires Inv-loop2 μ-loop2 Inv-loop μ-loop
-text-requires c κs = search needs
 
 add-frame : tie.Need-add-frame Inv-loop2 μ-loop2 Inv-loop μ-loop
 add-frame c = search needs
@@ -65,10 +56,7 @@ drives-spec =
     μ-loop
     loop-holds
     loop2-holds
-    slice-aggregate-hex-line
     hex-line-requires
-    slice-aggregate-text
-    text-requires
     add-frame
     loop2-less
     loop2-again

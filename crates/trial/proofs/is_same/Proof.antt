@@ -1,9 +1,9 @@
--- `mail::is_same` meets its contract: the index stays below the length, which both have.
+-- `trial::is_same` meets its contract: the index stays below the length, which both have.
 use borrow.Author.Needs.{needs}
 use Prim.Native.Nat.{_≤_, _-_}
 use lib.ListN.{length}
-use Rattle.mail.proofs.is_same.Statement.{statement}
-use Rattle.mail.proofs.is_same.Tie as tie
+use Rattle.trial.proofs.is_same.Statement.{statement}
+use Rattle.trial.proofs.is_same.Tie as tie
 
 abbrev Inv-loop : tie.InvT-loop
 Inv-loop a b i₀ i = i ≤ length a

@@ -1,22 +1,22 @@
--- `morning::burn` is safe and ends.
+-- `trial::set_all` meets its contract: the index stays below the length, and the length stays as it is.
+use borrow.Author.Needs.{needs}
 use Prim.Native.Nat.{_≤_, _-_}
 use mathlib.Core.Path.{_≡_}
 use lib.ListN.{length}
-use borrow.Author.Needs.{needs}
-use Rattle.morning.proofs.burn.Statement.{statement}
-use Rattle.morning.proofs.burn.Tie as tie
+use Rattle.trial.proofs.set_all.Statement.{statement}
+use Rattle.trial.proofs.set_all.Tie as tie
 
 abbrev Inv-loop : tie.InvT-loop
-Inv-loop drive₀ i₀ drive i = (i ≤ length drive₀) × (length drive ≡ length drive₀)
+Inv-loop bytes₀ value i₀ bytes i = (i ≤ length bytes₀) × (length bytes ≡ length bytes₀)
 
 abbrev μ-loop : tie.MeasureT-loop
-μ-loop drive₀ i₀ drive i = length drive₀ - i
+μ-loop bytes₀ value i₀ bytes i = length bytes₀ - i
 
 loop-holds : tie.Need-loop-holds Inv-loop μ-loop
 loop-holds c = search needs
 
-slice-write-drive : tie.Need-slice-write-drive Inv-loop μ-loop
-slice-write-drive c = search needs
+slice-write-bytes : tie.Need-slice-write-bytes Inv-loop μ-loop
+slice-write-bytes c = search needs
 
 add-i : tie.Need-add-i Inv-loop μ-loop
 add-i c = search needs
@@ -33,14 +33,14 @@ same-length c = search needs
 returns : tie.Need-returns Inv-loop μ-loop
 returns c = search needs
 
-pub burn-spec : {M : Type 1} → statement M
-burn-spec =
+pub set-all-spec : {M : Type 1} → statement M
+set-all-spec =
     tie.close
     (tie.spec
     Inv-loop
     μ-loop
     loop-holds
-    slice-write-drive
+    slice-write-bytes
     add-i
     loop-less
     loop-again

@@ -1,0 +1,52 @@
+//! The row of drives that `morning`, `mail` and `session` speak of.
+
+use super::{answered, line};
+use crate::layout::{layout, Layout};
+use crate::pool::{fail, repair, Record};
+
+/// N=2 K=1 P=5 and cookie 7, with these units and tiles.
+pub(super) fn row(u: u64, t: u64) -> Layout {
+    layout(2, 1, 5, u, t, 7)
+}
+
+/// The row with units of 8 bytes and one tile, and what is told of it.
+pub(super) struct Row {
+    pub layout: Layout,
+    pub record: Record,
+    pub image: Vec<u8>,
+    pub out: String,
+}
+
+impl Row {
+    pub fn new() -> Row {
+        let layout = row(8, 1);
+        Row {
+            layout,
+            record: Record::default(),
+            image: vec![0; layout.derived().image as usize],
+            out: String::new(),
+        }
+    }
+
+    pub fn lose(&mut self, target: u64) {
+        let (refusal, record) = fail(&self.layout, &self.record, &self.image, target);
+        self.record = record;
+        line!(self.out, "Drive {target} dies: {}", answered(refusal));
+    }
+
+    pub fn mend(&mut self) {
+        let (refusal, record, count) = repair(&self.layout, &self.record, &mut self.image);
+        self.record = record;
+        line!(
+            self.out,
+            "The row is repaired: {count} units were missing, {}",
+            answered(refusal)
+        );
+    }
+}
+
+/// What stood on a drive of an image of this row is gone.
+pub(super) fn wipe(image: &mut [u8], target: usize) {
+    let drive = image.len() / 5;
+    image[target * drive..(target + 1) * drive].fill(255);
+}
