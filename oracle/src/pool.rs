@@ -105,7 +105,7 @@ impl GroupState {
 }
 
 /// Refusals 1, 2 and 3, which every call over the image tests first.
-fn pool_refusal(layout: &Layout, record: &Record, image: &[u8]) -> u64 {
+pub(crate) fn pool_refusal(layout: &Layout, record: &Record, image: &[u8]) -> u64 {
     let (refusal, numbers) = layout.numbers();
     if refusal != 0 {
         1
