@@ -29,8 +29,9 @@ enum splicebell_refusal {
     SPLICEBELL_BAD_LAYOUT = 1,         /* a layout number outside its bounds */
     SPLICEBELL_BAD_IMAGE_LENGTH = 2,   /* the image is not of its exact length */
     SPLICEBELL_BAD_RECORD = 3,         /* the failure record is bad */
-    SPLICEBELL_OUTSIDE = 4,            /* tile, group, unit, frame, target, offset or range outside */
-    SPLICEBELL_BAD_BUFFER_LENGTH = 5,  /* a unit, group, scratch, line or text buffer of a wrong length */
+    SPLICEBELL_OUTSIDE = 4,            /* tile, group, unit, frame, target, offset or range outside,
+                                        * or more than 64 ranges in a list */
+    SPLICEBELL_BAD_BUFFER_LENGTH = 5,  /* a unit, group, scratch, line, text or list buffer of wrong length */
     SPLICEBELL_ALREADY_FAILED = 6,     /* the target has failed already */
     SPLICEBELL_DUD = 7,                /* K targets have failed already */
     SPLICEBELL_TOO_MANY_MISSING = 8,   /* more than K units named missing */
@@ -105,6 +106,16 @@ typedef struct splicebell_failed {
     uint64_t refusal;
     splicebell_record record;
 } splicebell_failed;
+
+/* Where in the file bytes are to be stored, and how many. */
+typedef struct splicebell_range {
+    uint64_t offset, length;
+} splicebell_range;
+
+/* Where the refusal is 4 for one range, range is the first that is outside, counted from 1; else 0. */
+typedef struct splicebell_list_written {
+    uint64_t refusal, range;
+} splicebell_list_written;
 
 typedef struct splicebell_repaired {
     uint64_t refusal, count;
@@ -209,6 +220,15 @@ uint64_t splicebell_read(splicebell_layout y, splicebell_record r, const uint8_t
  * Refusals: 1, 2, 3, 4 (range). Refused: the image is unchanged. */
 uint64_t splicebell_write(splicebell_layout y, splicebell_record r, uint8_t *image, size_t image_len,
                           uint64_t offset, const uint8_t *bytes, size_t bytes_len);
+
+/* Stores up to 64 ranges as write would one after the other: where they overlap, the later wins. bytes holds
+ * those of all ranges, in order. A range of length 0 counts as one; a list of none, with no bytes, does
+ * nothing.
+ * Refusals: 1, 2, 3, 4 (more than 64 ranges, with range 0; else with the first range that is outside), 5
+ * (bytes_len is not the sum of the lengths). Refused: the image is unchanged. */
+splicebell_list_written splicebell_write_list(splicebell_layout y, splicebell_record r, uint8_t *image,
+                                              size_t image_len, const splicebell_range *ranges,
+                                              size_t range_count, const uint8_t *bytes, size_t bytes_len);
 
 /* Stores every missing content at its new home; answers how many there were, and the record with q = k.
  * Refusals: 1, 2, 3. Refused: image and record are unchanged. */

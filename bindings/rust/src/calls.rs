@@ -7,16 +7,20 @@
 //! lent only bytes and numbers of 64 bits, which may hold any value; a `bool` in an answer is 0 or 1. Its
 //! stack is taken page by page, as Rust does it, so too small a stack ends the program at the guard page.
 use crate::raw::*;
-use crate::Entry;
+use crate::{Entry, Range};
 use std::mem::{align_of, offset_of, size_of};
 
-// An entry of the safe interface is lent to the library as it stands.
+// An entry and a range of the safe interface are lent to the library as they stand.
 const _: () = {
     assert!(size_of::<Entry>() == size_of::<splicebell_entry>());
     assert!(align_of::<Entry>() == align_of::<splicebell_entry>());
     assert!(offset_of!(Entry, device) == offset_of!(splicebell_entry, device));
     assert!(offset_of!(Entry, file) == offset_of!(splicebell_entry, file));
     assert!(offset_of!(Entry, cob) == offset_of!(splicebell_entry, cob));
+    assert!(size_of::<Range>() == size_of::<splicebell_range>());
+    assert!(align_of::<Range>() == align_of::<splicebell_range>());
+    assert!(offset_of!(Range, offset) == offset_of!(splicebell_range, offset));
+    assert!(offset_of!(Range, length) == offset_of!(splicebell_range, length));
 };
 
 pub fn measure(y: splicebell_layout) -> splicebell_measured {
@@ -88,6 +92,18 @@ pub fn write(
 ) -> u64 {
     let (into, room) = (image.as_mut_ptr(), image.len());
     unsafe { splicebell_write(y, r, into, room, offset, bytes.as_ptr(), bytes.len()) }
+}
+
+pub fn write_list(
+    y: splicebell_layout,
+    r: splicebell_record,
+    image: &mut [u8],
+    ranges: &[Range],
+    bytes: &[u8],
+) -> splicebell_list_written {
+    let (into, room) = (image.as_mut_ptr(), image.len());
+    let (list, count) = (ranges.as_ptr().cast(), ranges.len());
+    unsafe { splicebell_write_list(y, r, into, room, list, count, bytes.as_ptr(), bytes.len()) }
 }
 
 pub fn repair(y: splicebell_layout, r: splicebell_record, image: &mut [u8]) -> splicebell_repaired {

@@ -1,7 +1,7 @@
 use crate::calls;
 use crate::layout::Layout;
 use crate::raw;
-use crate::refusal::{answered, Result};
+use crate::refusal::{answered, list_answered, ListRefusal, Result};
 
 /// The failure record: which targets have failed, in order, and how many of them have been repaired.
 ///
@@ -26,6 +26,16 @@ impl Record {
         let raw::splicebell_record { failed, k, q } = record;
         Record { failed, k, q }
     }
+}
+
+/// One range of a list of writes. Any numbers may stand here.
+#[repr(C)]
+#[derive(Clone, Copy, Debug, Default, PartialEq, Eq, Hash)]
+pub struct Range {
+    /// Where in the file it begins.
+    pub offset: u64,
+    /// How many bytes it has.
+    pub length: u64,
 }
 
 /// A pool: a layout, a failure record and a lent image.
@@ -101,6 +111,59 @@ impl<'a> Pool<'a> {
     pub fn write(&mut self, offset: u64, bytes: &[u8]) -> Result<()> {
         let (y, r) = self.to_raw();
         answered(calls::write(y, r, self.image, offset, bytes), ())
+    }
+
+    /// Stores up to 64 ranges as [`Pool::write`] would one after the other: where they overlap, the later wins.
+    /// `bytes` holds those of all ranges, in order. Refused: nothing is stored.
+    ///
+    /// ```
+    /// use splicebell::{Layout, Pool, Range, Refusal};
+    ///
+    /// let mut image = [0; 48];
+    /// let mut pool = Pool::new(Layout { n: 1, k: 1, p: 4, u: 4, t: 1, cookie: 0 }, &mut image);
+    /// let ranges = [Range { offset: 0, length: 9 }, Range { offset: 2, length: 3 }];
+    /// pool.write_list(&ranges, b"a --- bagred")?;
+    /// let mut seen = [0; 9];
+    /// pool.read(0, &mut seen)?;
+    /// assert_eq!(&seen, b"a red bag");
+    /// let too_short = pool.write_list(&ranges, b"a --- bag").unwrap_err();
+    /// assert_eq!(too_short.refusal, Refusal::BadBufferLength);
+    /// # Ok::<(), Refusal>(())
+    /// ```
+    pub fn write_list(
+        &mut self,
+        ranges: &[Range],
+        bytes: &[u8],
+    ) -> std::result::Result<(), ListRefusal> {
+        let (y, r) = self.to_raw();
+        let answer = calls::write_list(y, r, self.image, ranges, bytes);
+        list_answered(answer.refusal, answer.range)
+    }
+
+    /// Stores up to 64 pieces, each at its own offset, in one call: [`Pool::write_list`] with a range for each
+    /// piece and their bytes put together. Refused: nothing is stored.
+    ///
+    /// ```
+    /// use splicebell::{Layout, Pool, Refusal};
+    ///
+    /// let layout = Layout { n: 2, k: 1, p: 5, u: 8, t: 1, cookie: 7 };
+    /// let mut image = vec![0; layout.measure()?.image as usize];
+    /// let mut pool = Pool::new(layout, &mut image);
+    /// let (photograph, weight, tag) = (b"a brown bag with one strap", b"23.4 kg", b"LH 0042");
+    /// pool.write_pieces(&[(0, photograph), (32, weight), (40, tag)])?;
+    /// let mut seen = [0; 7];
+    /// pool.read(40, &mut seen)?;
+    /// assert_eq!(&seen, tag);
+    /// # Ok::<(), Refusal>(())
+    /// ```
+    pub fn write_pieces(
+        &mut self,
+        pieces: &[(u64, &[u8])],
+    ) -> std::result::Result<(), ListRefusal> {
+        let range = |piece: &(u64, &[u8])| Range { offset: piece.0, length: piece.1.len() as u64 };
+        let ranges: Vec<Range> = pieces.iter().map(range).collect();
+        let parts: Vec<&[u8]> = pieces.iter().map(|piece| piece.1).collect();
+        self.write_list(&ranges, &parts.concat())
     }
 
     /// Enters a failed target into the record.

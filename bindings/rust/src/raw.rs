@@ -120,6 +120,20 @@ pub struct splicebell_failed {
 
 #[repr(C)]
 #[derive(Clone, Copy, Debug, Default, PartialEq, Eq)]
+pub struct splicebell_range {
+    pub offset: u64,
+    pub length: u64,
+}
+
+#[repr(C)]
+#[derive(Clone, Copy, Debug, Default, PartialEq, Eq)]
+pub struct splicebell_list_written {
+    pub refusal: u64,
+    pub range: u64,
+}
+
+#[repr(C)]
+#[derive(Clone, Copy, Debug, Default, PartialEq, Eq)]
 pub struct splicebell_repaired {
     pub refusal: u64,
     pub count: u64,
@@ -222,6 +236,16 @@ extern "C" {
         bytes: *const u8,
         bytes_len: usize,
     ) -> u64;
+    pub fn splicebell_write_list(
+        y: splicebell_layout,
+        r: splicebell_record,
+        image: *mut u8,
+        image_len: usize,
+        ranges: *const splicebell_range,
+        range_count: usize,
+        bytes: *const u8,
+        bytes_len: usize,
+    ) -> splicebell_list_written;
     pub fn splicebell_repair(
         y: splicebell_layout,
         r: splicebell_record,

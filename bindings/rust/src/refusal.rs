@@ -20,9 +20,10 @@ pub enum Refusal {
     BadImageLength = 2,
     /// 3: failure record bad.
     BadRecord = 3,
-    /// 4: tile, group, unit, frame, target, offset or range outside.
+    /// 4: tile, group, unit, frame, target, offset or range outside, or more than 64 ranges in a list. A
+    /// [`ListRefusal`] tells the range.
     Outside = 4,
-    /// 5: a unit, group, scratch, line or text buffer not of its exact length.
+    /// 5: a unit, group, scratch, line, text or list buffer not of its exact length.
     BadBufferLength = 5,
     /// 6: target already failed.
     AlreadyFailed = 6,
@@ -146,6 +147,54 @@ pub(crate) fn text_answered(number: u64, line: u64) -> std::result::Result<(), T
         let line = (refusal == Refusal::WrongLine).then_some(line);
         TextRefusal { refusal, line }
     };
+    answered(number, ()).map_err(told)
+}
+
+/// Why a list of writes was not made, and which range is to blame.
+///
+/// `?` makes a [`Refusal`] of it where no more is wanted.
+///
+/// ```
+/// use splicebell::{Layout, Pool, Refusal};
+///
+/// let mut image = [0; 48];
+/// let mut pool = Pool::new(Layout { n: 1, k: 1, p: 4, u: 4, t: 1, cookie: 0 }, &mut image);
+/// let why = pool.write_pieces(&[(0, b"a red bag"), (14, b"23.4 kg")]).unwrap_err();
+/// assert_eq!((why.refusal, why.range), (Refusal::Outside, Some(2)));
+/// let why = pool.write_pieces(&[(0, &b"again"[..]); 65]).unwrap_err();
+/// assert_eq!((why.refusal, why.range), (Refusal::Outside, None));
+/// assert_eq!(why.to_string(), "more than 64 ranges");
+/// ```
+#[derive(Clone, Copy, Debug, PartialEq, Eq, Hash)]
+pub struct ListRefusal {
+    /// Why nothing was written.
+    pub refusal: Refusal,
+    /// The first range that is outside, counted from 1; none where no single range is to blame.
+    pub range: Option<u64>,
+}
+
+impl fmt::Display for ListRefusal {
+    fn fmt(&self, f: &mut fmt::Formatter<'_>) -> fmt::Result {
+        match (self.range, self.refusal) {
+            (Some(range), refusal) => write!(f, "range {range}: {refusal}"),
+            // The library names the range wherever one alone is outside.
+            (None, Refusal::Outside) => f.write_str("more than 64 ranges"),
+            (None, refusal) => refusal.fmt(f),
+        }
+    }
+}
+
+impl Error for ListRefusal {}
+
+impl From<ListRefusal> for Refusal {
+    fn from(why: ListRefusal) -> Refusal {
+        why.refusal
+    }
+}
+
+/// Whether a list was written, by the library's two numbers.
+pub(crate) fn list_answered(number: u64, range: u64) -> std::result::Result<(), ListRefusal> {
+    let told = |refusal| ListRefusal { refusal, range: (range != 0).then_some(range) };
     answered(number, ()).map_err(told)
 }
 

@@ -1,7 +1,7 @@
 //! The safe interface on a small pool and a small catalogue.
 use splicebell::{
-    Catalogue, Cursor, Entry, Key, Layout, Mapped, Page, Pool, Record, Refusal, TextRefusal,
-    Traced, Unit,
+    Catalogue, Cursor, Entry, Key, Layout, ListRefusal, Mapped, Page, Pool, Range, Record, Refusal,
+    TextRefusal, Traced, Unit,
 };
 
 /// Two data, two parity and two spare units a group over seven targets.
@@ -210,6 +210,81 @@ fn a_refused_text_says_why() {
     assert_eq!(Layout { u: 0, ..LAYOUT }.text_length(), Err(Refusal::BadLayout));
 }
 
+/// An image that holds a file, with two dead drives and any bytes on them.
+fn with_dead_drives() -> Result<(Vec<u8>, Record), Refusal> {
+    let mut image = blank_image();
+    let mut pool = Pool::new(LAYOUT, &mut image);
+    pool.write(0, &photograph(LAYOUT.measure()?.capacity as usize))?;
+    for target in [5, 1] {
+        pool.fail(target)?;
+        scribble(&mut pool, target);
+    }
+    let record = pool.record();
+    Ok((image, record))
+}
+
+#[test]
+fn a_list_leaves_what_its_writes_leave_one_after_the_other() -> Result<(), Refusal> {
+    let (mut image, record) = with_dead_drives()?;
+    let mut same_image = image.clone();
+    let capacity = LAYOUT.measure()?.capacity;
+    let pieces: [(u64, &[u8]); 6] = [
+        (4, b"a photograph"),
+        (capacity - 7, b"23.4 kg"),
+        (11, b"graph again"),
+        (0, b""),
+        (3, b"THE"),
+        (capacity, b""),
+    ];
+    let mut at_once = Pool::with_record(LAYOUT, record, &mut image);
+    at_once.write_pieces(&pieces)?;
+    let mut in_turn = Pool::with_record(LAYOUT, record, &mut same_image);
+    for (offset, bytes) in pieces {
+        in_turn.write(offset, bytes)?;
+    }
+    assert_eq!(at_once.image(), in_turn.image());
+    let (mut overlaid, mut last) = ([0; 19], [0; 7]);
+    at_once.read(3, &mut overlaid)?;
+    at_once.read(capacity - 7, &mut last)?;
+    assert_eq!((&overlaid, &last), (b"THEphotograph again", b"23.4 kg"));
+    Ok(())
+}
+
+#[test]
+fn a_refused_list_tells_its_range_and_stores_nothing() {
+    let refused = |layout, record, ranges: &[(u64, u64)], length| {
+        let mut image = blank_image();
+        image.fill(1);
+        let ranges: Vec<Range> =
+            ranges.iter().map(|&(offset, length)| Range { offset, length }).collect();
+        let mut pool = Pool::with_record(layout, record, &mut image);
+        let why = pool.write_list(&ranges, &vec![2; length]).expect_err("the list is refused");
+        assert!(image.iter().all(|byte| *byte == 1));
+        (why.refusal, why.range)
+    };
+    let listed = |ranges: &[(u64, u64)], length| refused(LAYOUT, Record::default(), ranges, length);
+    assert_eq!(listed(&[(0, 4), (81, 4), (90, 1)], 9), (Refusal::Outside, Some(2)));
+    assert_eq!(listed(&[(0, 4), (0, u64::MAX)], 3), (Refusal::Outside, Some(2)));
+    assert_eq!(listed(&[(85, 0); 64], 0), (Refusal::Outside, Some(1)));
+    assert_eq!(listed(&[(0, 1); 65], 65), (Refusal::Outside, None));
+    assert_eq!(listed(&[(0, 4), (80, 4)], 7), (Refusal::BadBufferLength, None));
+    assert_eq!(listed(&[(0, 4), (80, 4)], 9), (Refusal::BadBufferLength, None));
+    assert_eq!(listed(&[], 1), (Refusal::BadBufferLength, None));
+    let (longer, none) = (Layout { t: 3, ..LAYOUT }, Record::default());
+    assert_eq!(refused(Layout { p: 65, ..LAYOUT }, none, &[], 0), (Refusal::BadLayout, None));
+    assert_eq!(refused(longer, none, &[(85, 1)], 1), (Refusal::BadImageLength, None));
+    let unfailed = Record { q: 1, ..none };
+    assert_eq!(refused(LAYOUT, unfailed, &[(85, 1)], 1), (Refusal::BadRecord, None));
+}
+
+#[test]
+fn a_refused_list_says_why() {
+    let told = |refusal, range| ListRefusal { refusal, range }.to_string();
+    assert_eq!(told(Refusal::BadImageLength, None), "image length wrong");
+    assert_eq!(told(Refusal::Outside, None), "more than 64 ranges");
+    assert!(told(Refusal::Outside, Some(64)).starts_with("range 64: tile, group, unit, frame"));
+}
+
 #[test]
 fn empty_ranges_are_taken_anywhere_inside() -> Result<(), Refusal> {
     let mut image = blank_image();
@@ -218,6 +293,10 @@ fn empty_ranges_are_taken_anywhere_inside() -> Result<(), Refusal> {
     pool.write(capacity, &[])?;
     pool.read(capacity, &mut [])?;
     assert_eq!(pool.read(capacity + 1, &mut []), Err(Refusal::Outside));
+    pool.write_list(&[], &[])?;
+    pool.write_pieces(&[(capacity, b""), (7, b"")])?;
+    let past_the_end = pool.write_pieces(&[(capacity, b""), (capacity + 1, b"")]);
+    assert_eq!(past_the_end.map_err(|why| why.range), Err(Some(2)));
     Ok(())
 }
 
@@ -256,7 +335,7 @@ fn a_bad_catalogue_is_refused_and_kept() {
     assert_eq!((catalogue.count(), catalogue.slots()), (2, &falling[..]));
 }
 
-/// docs/ABI.md states what a write, the deepest call, takes.
+/// docs/ABI.md states what the deepest calls, a write and a list of writes, take.
 #[test]
 fn a_thread_of_64_kib_is_enough() {
     let largest = Layout { n: 16, k: 3, p: 22, u: 4096, t: 1, cookie: 5 };
@@ -268,6 +347,7 @@ fn a_thread_of_64_kib_is_enough() {
         }
         let mut file = vec![1; 16 * 4096 - 2];
         pool.write(1, &file)?;
+        pool.write_pieces(&[(1, &file), (0, b"again")])?;
         pool.repair()?;
         pool.read(1, &mut file)
     };

@@ -14,6 +14,10 @@ const HEADER: &str = "include/splicebell.h";
 const DECLARATIONS: &str = "bindings/rust/src/raw.rs";
 const EXPORTS: &str = "crates/abi/src/lib.rt";
 
+/// The struct of the header that is a pair of numbers in Rattle, and has no name there.
+const RANGE: &str = "range";
+const PAIR: &str = "[u64;2]";
+
 fn size_of_field<S, F>(_field: impl Fn(&S) -> &F) -> usize {
     size_of::<F>()
 }
@@ -49,6 +53,8 @@ fn rust_lines() -> Vec<String> {
         splicebell_cursor { target frame }
         splicebell_walked { refusal done held next }
         splicebell_failed { refusal record }
+        splicebell_range { offset length }
+        splicebell_list_written { refusal range }
         splicebell_repaired { refusal count record }
         splicebell_shown { refusal missing begins length }
         splicebell_entry { device file cob }
@@ -98,11 +104,26 @@ fn enum_values_are_the_refusal_numbers() {
 
 #[test]
 fn structs_have_the_same_fields_in_all_three() {
-    let header = c_structs(&file(HEADER));
+    let mut header = c_structs(&file(HEADER));
     assert_eq!(header, structs(&file(DECLARATIONS)));
     let mut rattle = structs(&all_rattle());
     rattle.retain(|name, _| header.contains_key(name));
+    header.remove(RANGE);
     assert_eq!(header, with_c_field_names(rattle));
+}
+
+#[test]
+fn a_range_lies_as_a_pair_of_numbers() {
+    let fields = &c_structs(&file(HEADER))[RANGE];
+    let number = |name: &str| (name.to_string(), "u64".to_string());
+    assert_eq!(*fields, ["offset", "length"].map(number));
+    let (whole, alone) = (size_of::<[u64; 2]>(), size_of::<u64>());
+    let lies = [
+        format!("splicebell_range {whole} {}", align_of::<[u64; 2]>()),
+        format!("splicebell_range.offset 0 {alone}"),
+        format!("splicebell_range.length {alone} {alone}"),
+    ];
+    assert_eq!(c_lines("splicebell_range"), lies);
 }
 
 /// `record` is a word of the prover's, so Rattle calls such a field `rec`.
@@ -126,7 +147,8 @@ fn functions_are_the_same_in_all_three() {
     assert_eq!(with_common_names(header), with_common_names(functions(&rattle)));
 }
 
-/// Rattle has no names for the lengths of slices, and shorter ones for a catalogue's slots and record.
+/// Rattle has no names for the lengths of slices and for a pair of numbers, and shorter ones for a catalogue's
+/// slots and record.
 fn with_common_names(mut functions: Functions) -> Functions {
     for function in functions.values_mut() {
         let mut after_pointer = false;
@@ -139,6 +161,7 @@ fn with_common_names(mut functions: Functions) -> Functions {
             };
             after_pointer = of.starts_with('*');
             *name = common.to_string();
+            *of = of.replace(PAIR, RANGE);
         }
     }
     functions
@@ -146,6 +169,6 @@ fn with_common_names(mut functions: Functions) -> Functions {
 
 #[test]
 fn the_sources_were_read() {
-    assert_eq!(c_functions(&file(HEADER)).len(), 23);
-    assert_eq!(c_structs(&file(HEADER)).len(), 21);
+    assert_eq!(c_functions(&file(HEADER)).len(), 24);
+    assert_eq!(c_structs(&file(HEADER)).len(), 23);
 }

@@ -213,16 +213,18 @@ fn parameters(inside: &[String]) -> Vec<Named> {
     let one = |words: &[String]| {
         let words: Vec<&str> = words.iter().map(String::as_str).filter(|w| *w != "pub").collect();
         let named = |of: String| vec![(words[0].to_string(), of)];
-        let slice = |kind: &str, of: &str| {
+        let array = |of: &str, length: &str| format!("[{};{length}]", plain(of));
+        let slice = |kind: &str, of: String| {
             let length = (format!("{}_len", words[0]), "usize".to_string());
-            vec![(words[0].to_string(), format!("*{kind} {}", plain(of))), length]
+            vec![(words[0].to_string(), format!("*{kind} {of}")), length]
         };
         match words[1..] {
             [":", of] => named(plain(of)),
-            [":", "[", of, ";", length, "]"] => named(format!("[{};{length}]", plain(of))),
+            [":", "[", of, ";", length, "]"] => named(array(of, length)),
             [":", "*", kind, of] => named(format!("*{kind} {}", plain(of))),
-            [":", "&", "[", of, "]"] => slice("const", of),
-            [":", "&", "mut", "[", of, "]"] => slice("mut", of),
+            [":", "&", "[", of, "]"] => slice("const", plain(of)),
+            [":", "&", "[", "[", of, ";", length, "]", "]"] => slice("const", array(of, length)),
+            [":", "&", "mut", "[", of, "]"] => slice("mut", plain(of)),
             _ => panic!("an unknown field or parameter: {words:?}"),
         }
     };
