@@ -22,7 +22,7 @@ pub fn tell_where() {
 pub struct Bench {
     pub draws: Draws,
     pub tally: Tally,
-    arenas: [Arena; 2],
+    arenas: [Arena; 3],
     lent: usize,
     /// Whether every call is printed before it is made.
     tells: bool,
@@ -35,7 +35,7 @@ impl Bench {
         Bench {
             draws: Draws::new(0, 0),
             tally: Tally::NONE,
-            arenas: [arena(), arena()],
+            arenas: [arena(), arena(), arena()],
             lent: 0,
             tells,
             spoil,
@@ -61,7 +61,7 @@ impl Bench {
         lent
     }
 
-    /// Lends a copy of `contents` that the call may change. No call takes more than two buffers.
+    /// Lends a copy of `contents` that the call may change. No call takes more than three buffers.
     pub fn lend_mut<T: Copy>(&mut self, contents: &[T]) -> Lent<T> {
         self.lent += 1;
         self.arenas[self.lent - 1].lend(contents, &mut self.draws)

@@ -10,6 +10,8 @@ mod faults;
 mod groups;
 mod layouts;
 mod lent;
+mod list_kinds;
+mod lists;
 mod places;
 mod pool_calls;
 mod pools;

@@ -84,9 +84,20 @@ pub fn read(bench: &mut Bench, pool: &Pool) {
 pub fn write(bench: &mut Bench, pool: &Pool) -> Pool {
     let (offset, length) = range(&mut bench.draws, pool);
     let stored = bench.draws.bytes(length);
-    let inputs = || format!("{} offset {offset} bytes {}", pool.told(), hex(&stored));
+    write_at(bench, pool, offset, &stored, None)
+}
+
+/// Writes these bytes. `wanted` is what the image must become, where that is known without the model's write.
+pub fn write_at(
+    bench: &mut Bench,
+    pool: &Pool,
+    offset: u64,
+    stored: &[u8],
+    wanted: Option<&[u8]>,
+) -> Pool {
+    let inputs = || format!("{} offset {offset} bytes {}", pool.told(), hex(stored));
     let mut trial = bench.begin(Call::Write, &inputs);
-    let (image, bytes) = (bench.lend_mut(&pool.image), bench.lend(&stored));
+    let (image, bytes) = (bench.lend_mut(&pool.image), bench.lend(stored));
     let (y, r) = (lent(&pool.layout), records::lent(&pool.record));
     // SAFETY: both pointers lead to that many bytes, and the buffers lie apart.
     let answer = unsafe {
@@ -101,11 +112,13 @@ pub fn write(bench: &mut Bench, pool: &Pool) -> Pool {
         )
     };
     let mut after = pool.clone();
-    let refusal =
-        oracle::pool::write(&pool.layout, &pool.record, &mut after.image, offset, &stored);
+    let refusal = oracle::pool::write(&pool.layout, &pool.record, &mut after.image, offset, stored);
     trial.number("refusal", answer, refusal);
     trial.buffer("image", &image, &after.image);
-    trial.buffer("bytes", &bytes, &stored);
+    trial.buffer("bytes", &bytes, stored);
+    if let Some(wanted) = wanted {
+        trial.buffer("image, against that of the list", &image, wanted);
+    }
     bench.end(trial, refusal);
     after
 }

@@ -3,6 +3,7 @@
 use crate::bench::{hex, Bench};
 use crate::draws::Draws;
 use crate::layouts::is_light;
+use crate::lists::write_list;
 use crate::pool_calls::{fail, hex_line, prepare, read, repair, show, write};
 use crate::{layouts, records};
 use oracle::layout::Layout;
@@ -23,6 +24,8 @@ pub struct Pool {
     pub layout: Layout,
     pub record: Record,
     pub image: Vec<u8>,
+    /// Whether a failed target holds other bytes than those that it failed with.
+    pub is_scribbled: bool,
 }
 
 impl Pool {
@@ -32,10 +35,10 @@ impl Pool {
         let length = layout.derived().image as usize;
         if draws.one_in(3) {
             let record = records::good(draws, &layout);
-            Pool { layout, record, image: draws.bytes(length) }
+            Pool { layout, record, image: draws.bytes(length), is_scribbled: record.k > 0 }
         } else {
             let record = records::empty(draws);
-            Pool { layout, record, image: vec![0; length] }
+            Pool { layout, record, image: vec![0; length], is_scribbled: false }
         }
     }
 
@@ -66,6 +69,7 @@ impl Pool {
     /// Drawn bytes where no answer may depend on them: on failed targets and on spares that are no home.
     fn scribble(&mut self, draws: &mut Draws) {
         let (y, r) = (&self.layout, &self.record);
+        self.is_scribbled = r.k > 0;
         let frames_bytes = self.image.len() / y.p as usize;
         for target in &r.failed[..r.k as usize] {
             let begins = *target as usize * frames_bytes;
@@ -122,14 +126,15 @@ pub fn round(bench: &mut Bench) {
 
 /// Makes one call; what it leaves, for calls that change the record or the image.
 fn call(bench: &mut Bench, pool: &Pool) -> Option<Pool> {
-    match bench.draws.below(20) {
+    match bench.draws.below(24) {
         0..=3 => read(bench, pool),
         4..=8 => return Some(write(bench, pool)),
         9..=11 => return Some(fail(bench, pool)),
         12..=13 if is_light(&pool.layout) => return Some(repair(bench, pool)),
         12..=15 => prepare(bench, pool),
         16..=17 => show(bench, pool),
-        _ => hex_line(bench, pool),
+        18..=19 => hex_line(bench, pool),
+        _ => return Some(write_list(bench, pool)),
     }
     None
 }

@@ -1,6 +1,8 @@
-//! What has been tried so far: the calls with their refusal numbers, the layouts, and the damage done to texts.
+//! What has been tried so far: the calls with their refusal numbers, the layouts, the damage done to texts, and the
+//! kinds of lists of writes.
 
 use crate::damages::DAMAGES;
+use crate::list_kinds::{Listed, KINDS};
 use oracle::layout::Layout;
 
 /// The public calls, in the order of include/splicebell.h.
@@ -19,6 +21,7 @@ pub enum Call {
     Fail,
     Read,
     Write,
+    WriteList,
     Repair,
     Prepare,
     Show,
@@ -32,7 +35,7 @@ pub enum Call {
 }
 
 /// The name of each call, and the numbers that it may answer by include/splicebell.h, beside 0.
-const CALLS: [(&str, &[usize]); 23] = [
+const CALLS: [(&str, &[usize]); 24] = [
     ("measure", &[1]),
     ("tile_permutation", &[1, 4]),
     ("tile_inverse", &[1, 4]),
@@ -46,6 +49,7 @@ const CALLS: [(&str, &[usize]); 23] = [
     ("fail", &[1, 2, 3, 4, 6, 7]),
     ("read", &[1, 2, 3, 4]),
     ("write", &[1, 2, 3, 4]),
+    ("write_list", &[1, 2, 3, 4, 5]),
     ("repair", &[1, 2, 3]),
     ("prepare", &[1, 2, 3, 4, 5]),
     ("show", &[1, 2, 3, 4, 5]),
@@ -118,6 +122,9 @@ pub struct Tally {
     texts: Ranges,
     /// How often each kind of damage was done to a text.
     damages: [u64; DAMAGES.len()],
+    /// How often a list of each kind was met, and the ranges that were answered with 4.
+    lists: [u64; KINDS.len()],
+    ranges: Range,
 }
 
 impl Tally {
@@ -127,6 +134,8 @@ impl Tally {
         pools: Ranges::NONE,
         texts: Ranges::NONE,
         damages: [0; DAMAGES.len()],
+        lists: [0; KINDS.len()],
+        ranges: Range::NONE,
     };
 
     pub fn add(&mut self, call: Call, refusal: u64) {
@@ -155,6 +164,16 @@ impl Tally {
         self.damages[kind] += 1;
     }
 
+    /// A list was asked for and answered.
+    pub fn add_list(&mut self, list: &Listed) {
+        for ((_, is_met), count) in KINDS.iter().zip(&mut self.lists) {
+            *count += u64::from(is_met(list));
+        }
+        if list.range > 0 {
+            self.ranges.add(list.range);
+        }
+    }
+
     pub fn calls(&self) -> u64 {
         self.counts.iter().flatten().sum()
     }
@@ -176,12 +195,17 @@ impl Tally {
         for ((name, _), count) in DAMAGES.iter().zip(self.damages) {
             println!("text: {name:25}{count:9}");
         }
+        for ((name, _), count) in KINDS.iter().zip(self.lists) {
+            println!("list: {name:30}{count:9}");
+        }
+        println!("list: ranges {} answered with 4", self.ranges);
         self.all.print("without an image");
         self.pools.print("pools");
         self.texts.print("texts");
     }
 
-    /// The calls and their refusal numbers that were never met, and the damage that was never done.
+    /// The calls and their refusal numbers that were never met, the damage that was never done, and the kinds of
+    /// lists that were never met.
     pub fn never_met(&self) -> Vec<String> {
         let mut never = Vec::new();
         for ((name, refusals), of_call) in CALLS.iter().zip(self.counts) {
@@ -190,6 +214,8 @@ impl Tally {
         }
         let damages = DAMAGES.iter().zip(self.damages).filter(|(_, count)| *count == 0);
         never.extend(damages.map(|((name, _), _)| format!("a text with {name}")));
+        let lists = KINDS.iter().zip(self.lists).filter(|(_, count)| *count == 0);
+        never.extend(lists.map(|((name, _), _)| format!("a list with {name}")));
         never
     }
 }
