@@ -10,7 +10,9 @@
 static const splicebell_layout row = {.n = 2, .k = 1, .p = 5, .u = 8, .t = 1, .cookie = 7};
 static const char first[] = "Mrs Abel: a red suitcase";
 static const char second[] = "Mr Zorn: two skis";
-enum { SECOND_AT = 24, LOST = 2 };
+static const char weight[] = "7.4 kg";
+static const char tag[] = "tag 0217";
+enum { SECOND_AT = 24, WEIGHT_AT = 48, TAG_AT = 56, TOO_FAR = 76, LOST = 2 };
 
 typedef struct pool {
     splicebell_record record;
@@ -56,6 +58,29 @@ static int all_zeros(const uint8_t *bytes, size_t length) {
     return 1;
 }
 
+/* The last session's photograph, weight and tag in one call. */
+static splicebell_list_written store_session(pool p, uint64_t tag_at) {
+    const splicebell_range ranges[] = {
+        {SECOND_AT, strlen(second)}, {WEIGHT_AT, strlen(weight)}, {tag_at, strlen(tag)}};
+    char bytes[64];
+    int length = snprintf(bytes, sizeof bytes, "%s%s%s", second, weight, tag);
+    return splicebell_write_list(row, p.record, p.image, p.length, ranges, 3, (const uint8_t *)bytes,
+                                 (size_t)length);
+}
+
+/* All of a session is stored, or nothing. */
+static void end_session(pool p) {
+    splicebell_list_written refused = store_session(p, TOO_FAR);
+    uint8_t photograph[sizeof second - 1];
+    accepted(splicebell_read(row, p.record, p.image, p.length, SECOND_AT, photograph, sizeof photograph));
+    printf("A session with its tag at %d is refused with %" PRIu64 " at range %" PRIu64 ", and %s of it is stored.\n",
+           TOO_FAR, refused.refusal, refused.range,
+           all_zeros(photograph, sizeof photograph) ? "nothing" : "something");
+    accepted(store_session(p, TAG_AT).refusal);
+    printf("Then \"%s\" is stored at %d, \"%s\" at %d, \"%s\" at %d, in one call.\n", second, SECOND_AT, weight,
+           WEIGHT_AT, tag, TAG_AT);
+}
+
 /* Field staff mail the row as text; the desk takes it back, and refuses a copy that was spoilt. */
 static void mail(pool p, uint64_t frames) {
     size_t line = 11 + 2 * row.u, lines = row.p * frames, length = lines * line;
@@ -85,7 +110,7 @@ int main(void) {
     }
     printf("A row of 5 drives holds a file of %" PRIu64 " bytes.\n", measured.numbers.capacity);
     store(p, 0, first);
-    store(p, SECOND_AT, second);
+    end_session(p);
 
     splicebell_failed failed = splicebell_fail(row, p.record, p.image, p.length, LOST);
     accepted(failed.refusal);
@@ -94,6 +119,7 @@ int main(void) {
     printf("Drive %d dies, and what stood on it is lost.\n", LOST);
     show(p, 0, strlen(first));
     show(p, SECOND_AT, strlen(second));
+    show(p, TAG_AT, strlen(tag));
 
     splicebell_repaired repaired = splicebell_repair(row, p.record, p.image, p.length);
     accepted(repaired.refusal);

@@ -1,11 +1,16 @@
 //! A kiosk's morning, called from Rust. The C program in ../c tells the same story in the same words.
-use splicebell::{Layout, Pool, Result};
+use splicebell::{Layout, ListRefusal, Pool, Result};
 
 /// Two data units, one parity unit and one spare a group, over five drives; units of eight bytes.
 const ROW: Layout = Layout { n: 2, k: 1, p: 5, u: 8, t: 1, cookie: 7 };
 const FIRST: &str = "Mrs Abel: a red suitcase";
 const SECOND: &str = "Mr Zorn: two skis";
+const WEIGHT: &str = "7.4 kg";
+const TAG: &str = "tag 0217";
 const SECOND_AT: u64 = 24;
+const WEIGHT_AT: u64 = 48;
+const TAG_AT: u64 = 56;
+const TOO_FAR: u64 = 76;
 const LOST: usize = 2;
 
 fn store(pool: &mut Pool, at: u64, photograph: &str) -> Result<()> {
@@ -29,6 +34,29 @@ fn dump(pool: &Pool, frames: u64) -> Result<()> {
             print!("{}", String::from_utf8_lossy(&line));
         }
     }
+    Ok(())
+}
+
+/// The last session's photograph, weight and tag in one call.
+fn store_session(pool: &mut Pool, tag_at: u64) -> std::result::Result<(), ListRefusal> {
+    let (photograph, weight, tag) = (SECOND.as_bytes(), WEIGHT.as_bytes(), TAG.as_bytes());
+    pool.write_pieces(&[(SECOND_AT, photograph), (WEIGHT_AT, weight), (tag_at, tag)])
+}
+
+/// All of a session is stored, or nothing.
+fn end_session(pool: &mut Pool) -> Result<()> {
+    let refused = store_session(pool, TOO_FAR).expect_err("the file ends before that");
+    let mut photograph = [0; SECOND.len()];
+    pool.read(SECOND_AT, &mut photograph)?;
+    let stored = if photograph == [0; SECOND.len()] { "nothing" } else { "something" };
+    let (number, range) = (refused.refusal.number(), refused.range.unwrap_or(0));
+    println!(
+        "A session with its tag at {TOO_FAR} is refused with {number} at range {range}, and {stored} of it is stored."
+    );
+    store_session(pool, TAG_AT)?;
+    println!(
+        "Then \"{SECOND}\" is stored at {SECOND_AT}, \"{WEIGHT}\" at {WEIGHT_AT}, \"{TAG}\" at {TAG_AT}, in one call."
+    );
     Ok(())
 }
 
@@ -60,13 +88,14 @@ fn main() -> Result<()> {
     let mut pool = Pool::new(ROW, &mut image);
     println!("A row of 5 drives holds a file of {} bytes.", numbers.capacity);
     store(&mut pool, 0, FIRST)?;
-    store(&mut pool, SECOND_AT, SECOND)?;
+    end_session(&mut pool)?;
 
     pool.fail(LOST as u64)?;
     pool.image_mut()[LOST * drive..][..drive].fill(0xff);
     println!("Drive {LOST} dies, and what stood on it is lost.");
     show(&pool, 0, FIRST.len())?;
     show(&pool, SECOND_AT, SECOND.len())?;
+    show(&pool, TAG_AT, TAG.len())?;
 
     let missing = pool.repair()?;
     println!("The row is repaired: {missing} units were missing.");
