@@ -10,7 +10,7 @@ built=target/bench
 archive=$(scripts/archive "$code")/libabi.a
 ZFEC=${ZFEC:-/usr/lib/python3/dist-packages/zfec}
 flags="-O2 -std=gnu11 -Wall -Wextra -Iinclude"
-plain_sources="timing floors coders codes pools pool_times maps catalogue texts growth works main"
+plain_sources="timing floors coders codes pools pool_times maps catalogue texts lists growth works main"
 
 mkdir -p "$built"
 "${RUSTC:-rustc}" --edition 2021 -O -C panic=abort --crate-type staticlib \

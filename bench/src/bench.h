@@ -49,6 +49,7 @@ void run_pools(void);
 void run_maps(void);
 void run_catalogue(void);
 void run_texts(void);
+void run_lists(void);
 void run_growth(void);
 
 /* Pieces of work by name, for counting instructions instead of time. Both answer the exit status. */

@@ -10,6 +10,9 @@ uint64_t twin_read(splicebell_layout y, splicebell_record r, const uint8_t *imag
                    uint8_t *out, size_t out_len);
 uint64_t twin_write(splicebell_layout y, splicebell_record r, uint8_t *image, size_t image_len, uint64_t offset,
                     const uint8_t *bytes, size_t bytes_len);
+splicebell_list_written twin_write_list(splicebell_layout y, splicebell_record r, uint8_t *image, size_t image_len,
+                                        const splicebell_range *ranges, size_t range_count, const uint8_t *bytes,
+                                        size_t bytes_len);
 splicebell_repaired twin_repair(splicebell_layout y, splicebell_record r, uint8_t *image, size_t image_len);
 uint64_t twin_write_text(splicebell_layout y, const uint8_t *image, size_t image_len, uint8_t *text, size_t text_len);
 splicebell_text_read twin_read_text(splicebell_layout y, const uint8_t *text, size_t text_len, uint8_t *image,

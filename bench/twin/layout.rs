@@ -39,6 +39,11 @@ impl Shape {
         (self.rows * self.layout.t) as usize
     }
 
+    /// Bytes of the file.
+    pub fn capacity(&self) -> u64 {
+        self.layout.t * self.groups_in_tile * self.layout.n * self.layout.u
+    }
+
     /// Entry c is the target of column c.
     pub fn permutation(&self, tile: u64) -> [u8; 64] {
         let mut state = self.layout.cookie.wrapping_add(11400714819323198485u64.wrapping_mul(tile));

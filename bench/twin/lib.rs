@@ -1,11 +1,12 @@
 //! A plain Rust twin of the calls that are timed, to compare with: the same layout, the same bytes, no proofs and no
-//! tests of what is passed, but for the text that is read. The C side is declared in `src/twin.h`, with the types of
-//! `splicebell.h`.
+//! tests of what is passed, but for the text that is read and the list that is written. The C side is declared in
+//! `src/twin.h`, with the types of `splicebell.h`.
 
 mod code;
 mod field;
 mod homes;
 mod layout;
+mod list;
 mod pool;
 mod text;
 
@@ -35,7 +36,14 @@ pub struct TextRead {
     line: u64,
 }
 
-/// Answers 0, as every call here but the reader of a text: what is passed is taken to be sound.
+#[repr(C)]
+pub struct ListWritten {
+    refusal: u64,
+    range: u64,
+}
+
+/// Answers 0, as every call here but the reader of a text and the writer of a list: what is passed is taken to be
+/// sound.
 ///
 /// # Safety
 /// `group` leads to `length` bytes that nothing else touches.
@@ -102,6 +110,29 @@ pub unsafe extern "C" fn twin_write(
         from_raw_parts(bytes, length),
     );
     0
+}
+
+/// # Safety
+/// The pointers lead to as many elements as their lengths say; nothing else touches `image`.
+#[no_mangle]
+pub unsafe extern "C" fn twin_write_list(
+    y: Layout,
+    r: Record,
+    image: *mut u8,
+    image_length: usize,
+    ranges: *const [u64; 2],
+    range_count: usize,
+    bytes: *const u8,
+    length: usize,
+) -> ListWritten {
+    let (refusal, range) = list::write(
+        y,
+        &r,
+        from_raw_parts_mut(image, image_length),
+        from_raw_parts(ranges, range_count),
+        from_raw_parts(bytes, length),
+    );
+    ListWritten { refusal, range }
 }
 
 /// # Safety

@@ -109,16 +109,26 @@ fn write_group(layout: &Layout, group: &Group, image: &mut [u8], part: Range<usi
     }
 }
 
-pub fn write(layout: Layout, record: &Record, image: &mut [u8], offset: u64, bytes: &[u8]) {
-    let shape = Shape::of(layout);
-    let mut tiles = Tiles::new(&shape);
+pub fn write_range(
+    layout: &Layout,
+    record: &Record,
+    tiles: &mut Tiles,
+    image: &mut [u8],
+    offset: u64,
+    bytes: &[u8],
+) {
     let mut rest = bytes;
-    for (g, part) in touched(&layout, offset, bytes.len()) {
+    for (g, part) in touched(layout, offset, bytes.len()) {
         let group = tiles.group(record, g);
         let (now, later) = rest.split_at(part.len());
-        write_group(&layout, &group, image, part, now);
+        write_group(layout, &group, image, part, now);
         rest = later;
     }
+}
+
+pub fn write(layout: Layout, record: &Record, image: &mut [u8], offset: u64, bytes: &[u8]) {
+    let shape = Shape::of(layout);
+    write_range(&layout, record, &mut Tiles::new(&shape), image, offset, bytes);
 }
 
 /// Stores every missing content at its home under the whole list, and answers how many there were.
