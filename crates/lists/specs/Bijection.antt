@@ -1,8 +1,10 @@
 -- A bijection of 0 .. n-1: a function with the function that undoes it.
 use mathlib.Core.Path.{_≡_, refl, sym, ap, _∙_, subst}
-use mathlib.Core.Logic.{_≢_}
+use mathlib.Core.Logic.{_≢_, ⊎-elim}
 use mathlib.Core.Bool.{Bool, true, false}
-use Prim.Native.Nat.{ℕ, _<_}
+use Prim.Native.Nat.{ℕ, zero, suc, _<_}
+use native.Mathlib.Nat.{lt-irrefl, not-suc-le-zero, le-of-suc-le-suc, eq-or-lt-of-le}
+use native.Mathlib.Omega.{arith}
 use lib.Dec.{eqb}
 use borrow.Author.Tests.{eqb-true, eq-eqb, ne-eqb}
 use Rattle.lists.specs.Pick.{pick, equal-or-not}
@@ -81,3 +83,41 @@ undone {n} {f} {g} {k} e b = record {
   back = λ t p. e (f t) (b .into t p) ∙ b .back t p;
   forth = λ t p. ap f (e t p) ∙ b .forth t p;
 }
+
+-- ---- a function of 0 .. n-1 into itself that another undoes is a bijection: n values that differ are all of them
+
+-- with the last place i exchanged for n, every other place lies below n
+flip-below : (n i j : ℕ) → i < suc n → j < suc n → j ≢ i → flip i n j < n
+flip-below n i j hi hj d =
+    equal-or-not j n (λ (e : j ≡ n). subst (λ (x : ℕ). x < n) (sym (ap (flip i n) e ∙ flip-right i n)) (below i hi (λ (q : i ≡ n). d (e ∙ sym q))))
+    (λ (p : j ≢ n). subst (λ (x : ℕ). x < n) (sym (flip-other i n j d p)) (below j hj p))
+  where
+    below : (k : ℕ) → k < suc n → k ≢ n → k < n
+    below k h p = ⊎-elim (λ (e : k ≡ n). absurd (p e)) (λ (l : k < n). l) (eq-or-lt-of-le (le-of-suc-le-suc h))
+
+module _ (n : ℕ) (f g : ℕ → ℕ) (into : (t : ℕ) → t < suc n → f t < suc n) (back : (t : ℕ) → t < suc n → g (f t) ≡ t) where
+  before-last : (t : ℕ) → t < n → flip (f n) n (f t) < n
+  before-last t h =
+      flip-below n (f n) (f t) (into n (omega arith)) (into t (omega arith))
+      (λ (e : f t ≡ f n). lt-irrefl n (subst (λ (x : ℕ). x < n) (sym (back t (omega arith)) ∙ ap g e ∙ back n (omega arith)) h))
+
+  one-more : ((u : ℕ) → u < n → (g (flip (f n) n u) < n) × (flip (f n) n (f (g (flip (f n) n u))) ≡ u)) → (v : ℕ) → v < suc n → (g v < suc n) × (f (g v) ≡ v)
+  one-more fewer v h =
+      equal-or-not v (f n)
+      (λ (e : v ≡ f n). let q : g v ≡ n = ap g e ∙ back n (omega arith) in (omega (arith, q), ap f q ∙ sym e))
+      (λ (d : v ≢ f n).
+      let r = fewer (flip (f n) n v) (flip-below n (f n) v (into n (omega arith)) h d) in
+      let e : g (flip (f n) n (flip (f n) n v)) ≡ g v = ap g (flip-flip (f n) n v) in
+      (omega (arith, e, r .0), sym (flip-flip (f n) n (f (g v))) ∙ ap (λ (x : ℕ). flip (f n) n (flip (f n) n (f x))) (sym e) ∙ ap (flip (f n) n) (r .1) ∙ flip-flip (f n) n v))
+
+onto : (n : ℕ) (f g : ℕ → ℕ) → ((t : ℕ) → t < n → f t < n) → ((t : ℕ) → t < n → g (f t) ≡ t) → (v : ℕ) → v < n → (g v < n) × (f (g v) ≡ v)
+onto zero f g into back v h = absurd (not-suc-le-zero h)
+onto (suc n) f g into back v h =
+    one-more n f g into back
+    (onto n (λ t. flip (f n) n (f t)) (λ u. g (flip (f n) n u)) (before-last n f g into back)
+    (λ t l. ap g (flip-flip (f n) n (f t)) ∙ back t (omega arith)))
+    v h
+
+pub undone-is-bijection : (n : ℕ) (f g : ℕ → ℕ) → ((t : ℕ) → t < n → f t < n) → ((t : ℕ) → t < n → g (f t) ≡ t) → Bijection n f g
+undone-is-bijection n f g into back =
+    record { into = into; from = λ v h. onto n f g into back v h .0; back = back; forth = λ v h. onto n f g into back v h .1 }
