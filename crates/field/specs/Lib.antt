@@ -4,3 +4,5 @@ pub mod Linear
 pub mod Laws
 pub mod Ring
 pub mod Sum
+pub mod Powers
+pub mod Tables
