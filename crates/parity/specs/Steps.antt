@@ -7,14 +7,15 @@ use native.Mathlib.Nat.{not-suc-le-zero, le-of-suc-le-suc}
 use native.Mathlib.Numerals.{add-one}
 use native.Mathlib.Omega.{arith}
 use lib.Bits.{bitXor}
+use lib.Dec.{lit<}
 use lib.ListN.{length, getD, set, length-append, List·getD-eq-default}
-use Rattle.lists.specs.Pick.{pick, pick-true, pick-false, below-or-not}
+use Rattle.lists.specs.Pick.{pick, below-or-not}
 use Rattle.lists.specs.Count.{count}
 use Rattle.lists.specs.Those.{those, length-those, those-place}
-use Rattle.field.specs.Byte.{_⊕_}
+use Rattle.field.specs.Byte.{_⊕_, mul}
 use Rattle.systems.specs.Coef.{coef}
 use Rattle.systems.specs.Cramer.{three}
-use Rattle.systems.specs.Matrix.{three-of, dotOf}
+use Rattle.systems.specs.Matrix.{ent, three-of, dotOf}
 use Rattle.parity.specs.Matrix.{pad3, Holds, slotCoef, parityCoef}
 
 -- ---- numbers in an array of three
@@ -25,26 +26,37 @@ held-lt l at d m h p b r k =
     subst⁻¹ (λ (x : ℕ). x < m) (ap (λ (z : List ℕ). getD z r 0) (h .at-is) ∙ three (λ (r : ℕ). getD (pad3 l) r 0 ≡ getD l r 0) refl refl refl r k)
     (below-or-not r (length l) (λ (i : r < length l). b r i) (λ (i : length l ≤ r). subst⁻¹ (λ (x : ℕ). x < m) (List·getD-eq-default l 0 i) p))
 
--- ---- coefficients
+-- ---- coefficients, from rows of them that are looked up once for all slots
 
-module _ (w is : List ℕ) (missing : Bool) (c j : ℕ) where
-  pub slot-in : missing ≡ true → getD w c 0 ≡ slotCoef w is missing c j
-  unfolding slotCoef
-  slot-in t = sym (pick-true missing _ _ t)
+-- the coefficient of slot j, where `lines` has the rows of the parity units
+abbrev pub slotFrom : List ℕ → List (List ℕ) → Bool → ℕ → ℕ → ℕ
+slotFrom w lines missing c j = pick missing (getD w c 0) (dotOf w (three-of (λ r. ent lines r j)))
 
-  pub slot-out : missing ≡ false → {col : List ℕ} {x : ℕ} → col ≡ three-of (λ r. coef (getD is r 0) j) → x ≡ dotOf w col → x ≡ slotCoef w is missing c j
-  unfolding slotCoef
-  slot-out t e q = q ∙ ap (dotOf w) e ∙ sym (pick-false missing _ _ t)
-
-pub parity-coef-made : (ks col across : List ℕ) (missing : Bool) (i j : ℕ) {a k d : ℕ} → a ≡ coef i j → k ≡ pick (not missing) a 0
-    → across ≡ three-of (λ c. coef i (getD ks c 0)) → d ≡ dotOf across col → bitXor k d ≡ parityCoef ks col missing i j
-unfolding parityCoef _⊕_
-parity-coef-made ks col across missing i j {a} ea ek ec ed =
-    ap₂ bitXor (ek ∙ turned missing a ∙ ap (pick missing 0) ea) (ed ∙ ap (λ (l : List ℕ). dotOf l col) ec)
+pub slot-by-lines : (w is : List ℕ) (lines : List (List ℕ)) (missing : Bool) (c j : ℕ) → ((r : ℕ) → r < 3 → ent lines r j ≡ coef (getD is r 0) j)
+    → slotFrom w lines missing c j ≡ slotCoef w is missing c j
+unfolding slotCoef
+slot-by-lines w is lines missing c j e = ap (pick missing (getD w c 0)) (ap₂ _⊕_ (term 0 (lit< tt)) (ap₂ _⊕_ (term 1 (lit< tt)) (term 2 (lit< tt))))
   where
-    turned : (t : Bool) (a : ℕ) → pick (not t) a 0 ≡ pick t 0 a
-    turned true a = refl
-    turned false a = refl
+    term : (r : ℕ) → r < 3 → mul (getD w r 0) (ent lines r j) ≡ mul (getD w r 0) (coef (getD is r 0) j)
+    term r h = ap (mul (getD w r 0)) (e r h)
+
+-- the coefficient of slot j in a parity unit whose row is `own`, where `across` has its coefficients of the lost units
+abbrev pub parityFrom : List ℕ → List ℕ → List (List ℕ) → Bool → ℕ → ℕ
+parityFrom own across lines missing j = pick missing 0 (getD own j 0) ⊕ dotOf across (three-of (λ r. ent lines r j))
+
+pub parity-by-rows : (ks own across : List ℕ) (lines : List (List ℕ)) (missing : Bool) (i j : ℕ) → getD own j 0 ≡ coef i j
+    → across ≡ three-of (λ c. coef i (getD ks c 0)) → parityFrom own across lines missing j ≡ parityCoef ks (three-of (λ r. ent lines r j)) missing i j
+unfolding parityCoef
+parity-by-rows ks own across lines missing i j eo ea =
+    ap₂ _⊕_ (ap (pick missing 0) eo) (ap (λ (l : List ℕ). dotOf l (three-of (λ r. ent lines r j))) ea)
+
+pub parity-coef-made : (missing : Bool) (own : ℕ) {k d x : ℕ} → k ≡ pick (not missing) own 0 → d ≡ x → bitXor k d ≡ pick missing 0 own ⊕ x
+unfolding _⊕_
+parity-coef-made missing own ek ed = ap₂ bitXor (ek ∙ turned missing) ed
+  where
+    turned : (t : Bool) → pick (not t) own 0 ≡ pick t 0 own
+    turned true = refl
+    turned false = refl
 
 -- ---- the search for at most three numbers that pass a test
 

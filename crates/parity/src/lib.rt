@@ -7,8 +7,10 @@ ghost use lib.ListN.{length, getD};
 ghost use Rattle.lists.specs.Pick.{pick, bit};
 ghost use Rattle.lists.specs.Count.{count};
 ghost use Rattle.lists.specs.Those.{those};
+ghost use Rattle.field.specs.Byte.{_⊕_};
+ghost use Rattle.field.specs.Tables.{Tables};
 ghost use Rattle.systems.specs.Coef.{coef as coefficient};
-ghost use Rattle.systems.specs.Matrix.{ent, three-of};
+ghost use Rattle.systems.specs.Matrix.{ent, three-of, dotOf};
 ghost use Rattle.parity.specs.Matrix.{flag, present, Holds, weightOf, slotCoef, lostCoef, parityCoef, unitCoef, RowsFor};
 ghost use Rattle.parity.specs.Group.{Solvable, lost, gone};
 ghost use Rattle.parity.specs.Rows.{slot};
@@ -84,15 +86,15 @@ fn weights(line: [u8; 3], d: usize) -> [u8; 3]
     ]
 }
 
-// The coefficients of data unit j in the parity units `is`.
-fn coefs_down(is: [usize; 3], j: usize) -> [u8; 3]
-    requires { ⌜ (j < 16) × ((r : ℕ) → r < 3 → getD is r 0 < 3) ⌝ }
-    ensures { λ x. ⌜ x ≡ three-of (λ r. coefficient (getD is r 0) j) ⌝ }
+// The coefficients of the parity units `is`, a row each.
+fn coefs_of(is: [usize; 3]) -> [[u8; 16]; 3]
+    requires { ⌜ ((r : ℕ) → r < 3 → getD is r 0 < 3) ⌝ }
+    ensures { λ x. ⌜ ((r : ℕ) → r < 3 → (j : ℕ) → j < 16 → ent x r j ≡ coefficient (getD is r 0) j) ⌝ }
 {
     [
-        systems::coef(is[0], j),
-        systems::coef(is[1], j),
-        systems::coef(is[2], j),
+        systems::row(is[0]),
+        systems::row(is[1]),
+        systems::row(is[2]),
     ]
 }
 
@@ -108,27 +110,44 @@ fn coefs_across(i: usize, ks: [usize; 3]) -> [u8; 3]
     ]
 }
 
-// The coefficient of slot j: the weight of the parity unit that stands in, which is number c, or what the equations bring of data unit j.
-fn slot_coef(w: [u8; 3], is: [usize; 3], missing: bool, c: usize, j: usize) -> u8
-    requires { ⌜ (j < 16) × ((r : ℕ) → r < 3 → getD is r 0 < 3) × ((missing ≡ true → c < 3)) ⌝ }
-    ensures { λ x. ⌜ x ≡ slotCoef w is missing c j ⌝ }
+// The coefficient of a slot: the weight of the parity unit that stands in, which is number c, or what the equations bring of the slot's data unit,
+// whose coefficients in them are `col`.
+fn slot_coef(
+    powers: &[u8; 256],
+    logs: &[u8; 256],
+    w: [u8; 3],
+    col: [u8; 3],
+    missing: bool,
+    c: usize,
+) -> u8
+    requires { ⌜ Tables (now powers) (now logs) × ((missing ≡ true → c < 3)) ⌝ }
+    ensures { λ x. ⌜ x ≡ pick missing (getD w c 0) (dotOf w col) ⌝ }
 {
     if missing {
         return w[c];
     }
-    systems::dot(w, coefs_down(is, j))
+    systems::dot(powers, logs, w, col)
 }
 
 // The row of a lost data unit, from its weights w.
-fn data_row(miss: [bool; 19], n: usize, w: [u8; 3], is: [usize; 3]) -> [u8; 16]
-    requires { ⌜ (n ≤ 16) × (length (those (flag miss) n) ≤ 3) × ((r : ℕ) → r < 3 → getD is r 0 < 3) ⌝ }
+fn data_row(
+    powers: &[u8; 256],
+    logs: &[u8; 256],
+    miss: [bool; 19],
+    n: usize,
+    w: [u8; 3],
+    is: [usize; 3],
+) -> [u8; 16]
+    requires { ⌜ Tables (now powers) (now logs) × (n ≤ 16) × (length (those (flag miss) n) ≤ 3) × ((r : ℕ) → r < 3 → getD is r 0 < 3) ⌝ }
     ensures { λ x. ⌜ ((j : ℕ) → j < n → getD x j 0 ≡ slotCoef w is (flag miss j) (count (flag miss) j) j) ⌝ }
 {
+    let lines = coefs_of(is);
     let mut row = [0u8; 16];
     let mut c: usize = 0;
     let mut j: usize = 0;
     while j < n {
-        row[j] = slot_coef(w, is, miss[j], c, j);
+        let col = [lines[0][j], lines[1][j], lines[2][j]];
+        row[j] = slot_coef(powers, logs, w, col, miss[j], c);
         c += one_if(miss[j]);
         j += 1;
     }
@@ -137,6 +156,8 @@ fn data_row(miss: [bool; 19], n: usize, w: [u8; 3], is: [usize; 3]) -> [u8; 16]
 
 // The row of the lost data unit number c, of d, where m is the inverse; zeros beyond them.
 fn lost_row(
+    powers: &[u8; 256],
+    logs: &[u8; 256],
     miss: [bool; 19],
     n: usize,
     m: [[u8; 3]; 3],
@@ -144,52 +165,71 @@ fn lost_row(
     d: usize,
     c: usize,
 ) -> [u8; 16]
-    requires { ⌜ (n ≤ 16) × (length (those (flag miss) n) ≤ 3) × ((r : ℕ) → r < 3 → getD is r 0 < 3) × (c < 3) ⌝ }
+    requires { ⌜ Tables (now powers) (now logs) × (n ≤ 16) × (length (those (flag miss) n) ≤ 3) × ((r : ℕ) → r < 3 → getD is r 0 < 3) × (c < 3) ⌝ }
     ensures { λ x. ⌜ ((j : ℕ) → j < n → getD x j 0 ≡ lostCoef m is d (flag miss) c j) ⌝ }
 {
     if c < d {
         let line = m[c];
-        return data_row(miss, n, weights(line, d), is);
+        return data_row(powers, logs, miss, n, weights(line, d), is);
     }
     [0u8; 16]
 }
 
 // The rows of the lost data units.
-fn lost_rows(miss: [bool; 19], n: usize, m: [[u8; 3]; 3], is: [usize; 3], d: usize) -> [[u8; 16]; 3]
-    requires { ⌜ (n ≤ 16) × (length (those (flag miss) n) ≤ 3) × ((r : ℕ) → r < 3 → getD is r 0 < 3) ⌝ }
+fn lost_rows(
+    powers: &[u8; 256],
+    logs: &[u8; 256],
+    miss: [bool; 19],
+    n: usize,
+    m: [[u8; 3]; 3],
+    is: [usize; 3],
+    d: usize,
+) -> [[u8; 16]; 3]
+    requires { ⌜ Tables (now powers) (now logs) × (n ≤ 16) × (length (those (flag miss) n) ≤ 3) × ((r : ℕ) → r < 3 → getD is r 0 < 3) ⌝ }
     ensures { λ x. ⌜ ((c : ℕ) → c < 3 → (j : ℕ) → j < n → ent x c j ≡ lostCoef m is d (flag miss) c j) ⌝ }
 {
     [
-        lost_row(miss, n, m, is, d, 0),
-        lost_row(miss, n, m, is, d, 1),
-        lost_row(miss, n, m, is, d, 2),
+        lost_row(powers, logs, miss, n, m, is, d, 0),
+        lost_row(powers, logs, miss, n, m, is, d, 1),
+        lost_row(powers, logs, miss, n, m, is, d, 2),
     ]
 }
 
-// The coefficient of slot j in parity unit i: its own, and what the lost units bring, in which slot j counts for `col`.
-fn parity_coef(ks: [usize; 3], col: [u8; 3], missing: bool, i: usize, j: usize) -> u8
-    requires { ⌜ (i < 3) × (j < 16) × ((c : ℕ) → c < 3 → getD ks c 0 < 16) ⌝ }
-    ensures { λ x. ⌜ x ≡ parityCoef ks col missing i j ⌝ }
+// The coefficient of a slot in a parity unit: its own, and what the lost units bring, in which the slot counts for `col`.
+fn parity_coef(
+    powers: &[u8; 256],
+    logs: &[u8; 256],
+    own: u8,
+    across: [u8; 3],
+    col: [u8; 3],
+    missing: bool,
+) -> u8
+    requires { ⌜ Tables (now powers) (now logs) ⌝ }
+    ensures { λ x. ⌜ x ≡ pick missing 0 own ⊕ dotOf across col ⌝ }
 {
-    keep(systems::coef(i, j), !missing) ^ systems::dot(coefs_across(i, ks), col)
+    keep(own, !missing) ^ systems::dot(powers, logs, across, col)
 }
 
 // The row of parity unit i, from the rows of the lost data units.
 fn parity_row(
+    powers: &[u8; 256],
+    logs: &[u8; 256],
     miss: [bool; 19],
     n: usize,
     ks: [usize; 3],
     lines: [[u8; 16]; 3],
     i: usize,
 ) -> [u8; 16]
-    requires { ⌜ (n ≤ 16) × (i < 3) × ((c : ℕ) → c < 3 → getD ks c 0 < 16) ⌝ }
+    requires { ⌜ Tables (now powers) (now logs) × (n ≤ 16) × (i < 3) × ((c : ℕ) → c < 3 → getD ks c 0 < 16) ⌝ }
     ensures { λ x. ⌜ ((j : ℕ) → j < n → getD x j 0 ≡ parityCoef ks (three-of (λ r. ent lines r j)) (flag miss j) i j) ⌝ }
 {
+    let own = systems::row(i);
+    let across = coefs_across(i, ks);
     let mut row = [0u8; 16];
     let mut j: usize = 0;
     while j < n {
         let col = [lines[0][j], lines[1][j], lines[2][j]];
-        row[j] = parity_coef(ks, col, miss[j], i, j);
+        row[j] = parity_coef(powers, logs, own[j], across, col, miss[j]);
         j += 1;
     }
     row
@@ -197,6 +237,8 @@ fn parity_row(
 
 // The row of the missing unit number q: a lost data unit, or the unit u, which is parity; zeros where there is none.
 fn unit_row(
+    powers: &[u8; 256],
+    logs: &[u8; 256],
     miss: [bool; 19],
     n: usize,
     ks: [usize; 3],
@@ -206,21 +248,27 @@ fn unit_row(
     q: usize,
     u: usize,
 ) -> [u8; 16]
-    requires { ⌜ (n ≤ 16) × (q < 3) × ((c : ℕ) → c < 3 → getD ks c 0 < 16) × ((d ≤ q → q < total → (n ≤ u) × (u < n + 3))) ⌝ }
+    requires { ⌜ Tables (now powers) (now logs) × (n ≤ 16) × (q < 3) × ((c : ℕ) → c < 3 → getD ks c 0 < 16) × ((d ≤ q → q < total → (n ≤ u) × (u < n + 3))) ⌝ }
     ensures { λ x. ⌜ ((j : ℕ) → j < n → getD x j 0 ≡ unitCoef ks d lines total (flag miss j) q (u - n) j) ⌝ }
 {
     if q < d {
         return lines[q];
     }
     if q < total {
-        return parity_row(miss, n, ks, lines, u - n);
+        return parity_row(powers, logs, miss, n, ks, lines, u - n);
     }
     [0u8; 16]
 }
 
 // The rows of the missing units, from the solved equations.
-fn solved_rows(miss: [bool; 19], n: usize, k: usize) -> [[u8; 16]; 3]
-    requires { ⌜ Solvable n k (flag miss) ⌝ }
+fn solved_rows(
+    powers: &[u8; 256],
+    logs: &[u8; 256],
+    miss: [bool; 19],
+    n: usize,
+    k: usize,
+) -> [[u8; 16]; 3]
+    requires { ⌜ Tables (now powers) (now logs) × Solvable n k (flag miss) ⌝ }
     ensures { λ x. ⌜ RowsFor n k (flag miss) x ⌝ }
 {
     let gone = missing_below(miss, n + k);
@@ -231,11 +279,12 @@ fn solved_rows(miss: [bool; 19], n: usize, k: usize) -> [[u8; 16]; 3]
     let ks = lost.at;
     let d = lost.count;
     let is = there.at;
-    let lines = lost_rows(miss, n, systems::inverse(systems::system(is, ks, d)), is, d);
+    let inverse = systems::inverse(powers, logs, systems::system(is, ks, d));
+    let lines = lost_rows(powers, logs, miss, n, inverse, is, d);
     [
-        unit_row(miss, n, ks, d, lines, total, 0, units[0]),
-        unit_row(miss, n, ks, d, lines, total, 1, units[1]),
-        unit_row(miss, n, ks, d, lines, total, 2, units[2]),
+        unit_row(powers, logs, miss, n, ks, d, lines, total, 0, units[0]),
+        unit_row(powers, logs, miss, n, ks, d, lines, total, 1, units[1]),
+        unit_row(powers, logs, miss, n, ks, d, lines, total, 2, units[2]),
     ]
 }
 
@@ -256,6 +305,7 @@ fn is_plain(miss: [bool; 19], n: usize, k: usize) -> bool
 }
 
 // For each missing unit, lowest first, its coefficients over the slots. One that is a plain sum, as most are after a failure, needs no equations.
+// For the others the field's tables are taken once, and lent to all that makes products.
 pub fn rows(miss: [bool; 19], n: usize, k: usize) -> [[u8; 16]; 3]
     requires { ⌜ Solvable n k (flag miss) ⌝ }
     ensures { λ x. ⌜ RowsFor n k (flag miss) x ⌝ }
@@ -263,7 +313,7 @@ pub fn rows(miss: [bool; 19], n: usize, k: usize) -> [[u8; 16]; 3]
     if is_plain(miss, n, k) {
         return [[1u8; 16], [0u8; 16], [0u8; 16]];
     }
-    solved_rows(miss, n, k)
+    solved_rows(&field::powers(), &field::logs(), miss, n, k)
 }
 
 // The unit that slot j reads; where data unit j is missing it is number c of those.

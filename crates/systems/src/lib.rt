@@ -3,6 +3,7 @@ ghost use mathlib.Core.Path.{_≡_};
 ghost use Prim.Native.Nat.{ℕ, _<_};
 ghost use lib.ListN.{getD};
 ghost use Rattle.field.specs.Byte.{inv as inverse_of};
+ghost use Rattle.field.specs.Tables.{Tables};
 ghost use Rattle.systems.specs.Coef.{coef as coefficient};
 ghost use Rattle.systems.specs.Cramer.{lo, hi, cof, det as determinant, inverse as inverseEntry};
 ghost use Rattle.systems.specs.System.{systemEntry};
@@ -79,52 +80,62 @@ fn high(r: usize) -> usize
 }
 
 // The determinant of what is left without row r and column c.
-fn cofactor(m: [[u8; 3]; 3], r: usize, c: usize) -> u8
-    requires { ⌜ (r < 3) × (c < 3) ⌝ }
+fn cofactor(powers: &[u8; 256], logs: &[u8; 256], m: [[u8; 3]; 3], r: usize, c: usize) -> u8
+    requires { ⌜ Tables (now powers) (now logs) × (r < 3) × (c < 3) ⌝ }
     ensures { λ x. ⌜ x ≡ cof (ent m) r c ⌝ }
 {
     let i = low(r);
     let k = high(r);
     let j = low(c);
     let l = high(c);
-    field::mul(m[i][j], m[k][l]) ^ field::mul(m[i][l], m[k][j])
+    field::mul_by(powers, logs, m[i][j], m[k][l]) ^ field::mul_by(powers, logs, m[i][l], m[k][j])
 }
 
 // The sum of the products of two rows of three.
-pub fn dot(u: [u8; 3], v: [u8; 3]) -> u8
+pub fn dot(powers: &[u8; 256], logs: &[u8; 256], u: [u8; 3], v: [u8; 3]) -> u8
+    requires { ⌜ Tables (now powers) (now logs) ⌝ }
     ensures { λ x. ⌜ x ≡ dotOf u v ⌝ }
 {
-    field::mul(u[0], v[0]) ^ (field::mul(u[1], v[1]) ^ field::mul(u[2], v[2]))
+    let first = field::mul_by(powers, logs, u[0], v[0]);
+    let second = field::mul_by(powers, logs, u[1], v[1]);
+    let third = field::mul_by(powers, logs, u[2], v[2]);
+    first ^ (second ^ third)
 }
 
-fn det(m: [[u8; 3]; 3]) -> u8
+fn det(powers: &[u8; 256], logs: &[u8; 256], m: [[u8; 3]; 3]) -> u8
+    requires { ⌜ Tables (now powers) (now logs) ⌝ }
     ensures { λ x. ⌜ x ≡ determinant (ent m) ⌝ }
 {
-    let c = [cofactor(m, 0, 0), cofactor(m, 0, 1), cofactor(m, 0, 2)];
-    dot(m[0], c)
+    let c = [
+        cofactor(powers, logs, m, 0, 0),
+        cofactor(powers, logs, m, 0, 1),
+        cofactor(powers, logs, m, 0, 2),
+    ];
+    dot(powers, logs, m[0], c)
 }
 
 // Row c of the inverse, where d is the inverse of the determinant.
-fn inverse_row(m: [[u8; 3]; 3], d: u8, c: usize) -> [u8; 3]
-    requires { ⌜ (c < 3) × (d ≡ inverse_of (determinant (ent m))) ⌝ }
+fn inverse_row(powers: &[u8; 256], logs: &[u8; 256], m: [[u8; 3]; 3], d: u8, c: usize) -> [u8; 3]
+    requires { ⌜ Tables (now powers) (now logs) × (c < 3) × (d ≡ inverse_of (determinant (ent m))) ⌝ }
     ensures { λ x. ⌜ x ≡ three-of (inverseEntry (ent m) c) ⌝ }
 {
     [
-        field::mul(cofactor(m, 0, c), d),
-        field::mul(cofactor(m, 1, c), d),
-        field::mul(cofactor(m, 2, c), d),
+        field::mul_by(powers, logs, cofactor(powers, logs, m, 0, c), d),
+        field::mul_by(powers, logs, cofactor(powers, logs, m, 1, c), d),
+        field::mul_by(powers, logs, cofactor(powers, logs, m, 2, c), d),
     ]
 }
 
 // The inverse of a matrix whose determinant is not 0: times a right side it is the one solution.
-pub fn inverse(m: [[u8; 3]; 3]) -> [[u8; 3]; 3]
+pub fn inverse(powers: &[u8; 256], logs: &[u8; 256], m: [[u8; 3]; 3]) -> [[u8; 3]; 3]
+    requires { ⌜ Tables (now powers) (now logs) ⌝ }
     ensures { λ x. ⌜ x ≡ square-of (inverseEntry (ent m)) ⌝ }
 {
-    let d = field::inv(det(m));
+    let d = field::inv_by(powers, logs, det(powers, logs, m));
     [
-        inverse_row(m, d, 0),
-        inverse_row(m, d, 1),
-        inverse_row(m, d, 2),
+        inverse_row(powers, logs, m, d, 0),
+        inverse_row(powers, logs, m, d, 1),
+        inverse_row(powers, logs, m, d, 2),
     ]
 }
 

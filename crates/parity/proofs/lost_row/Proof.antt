@@ -22,7 +22,7 @@ weights-requires : tie.Need-weights-requires
 weights-requires c κs = search needs
 
 data-row-requires : tie.Need-data-row-requires
-data-row-requires c κs = (c .before .before .before .pre .0, c .before .before .before .pre .1, c .before .before .before .pre .2)
+data-row-requires c κs = let p = c .before .before .before .pre in (p .0, p .1, p .2, p .3)
 
 returns : tie.Need-returns
 unfolding lostCoef

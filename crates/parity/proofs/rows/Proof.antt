@@ -16,6 +16,12 @@ returns c =
     let a = c .before .before .args in
     plain-rows (a .n) (a .k) (flag (a .miss)) (c .before .before .pre) (p .1) (p .2) (p .0) (replicate 16 0 ∷ replicate 16 0 ∷ [])
 
+powers-requires : tie.Need-powers-requires
+powers-requires c κs = search needs
+
+logs-requires : tie.Need-logs-requires
+logs-requires c κs = search needs
+
 solved-rows-requires : tie.Need-solved-rows-requires
 solved-rows-requires c κs = search needs
 
@@ -23,4 +29,6 @@ returns-2 : tie.Need-returns-2
 returns-2 c = search needs
 
 pub rows-spec : {M : Type 1} → statement M
-rows-spec = tie.close (tie.spec is-plain-requires returns solved-rows-requires returns-2)
+rows-spec =
+    tie.close
+    (tie.spec is-plain-requires returns powers-requires logs-requires solved-rows-requires returns-2)

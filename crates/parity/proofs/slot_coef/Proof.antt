@@ -1,24 +1,21 @@
--- `parity::slot_coef`. One lemma of Steps.antt for each return.
-use Rattle.parity.specs.Steps.{slot-in, slot-out}
+-- `parity::slot_coef`. By the test.
+use mathlib.Core.Path.{sym, _∙_}
+use Rattle.lists.specs.Pick.{pick-true, pick-false}
 use borrow.Author.Needs.{needs}
 use Rattle.parity.proofs.slot_coef.Statement.{statement}
 use Rattle.parity.proofs.slot_coef.Tie as tie
 
 array-read-result : tie.Need-array-read-result
-array-read-result c = c .before .pre .2 (c .if1 .taken)
+array-read-result c = c .before .pre .1 (c .if1 .taken)
 
 returns : tie.Need-returns
-returns c = let a = c .before .args in slot-in (a .t1) (a .is) (a .missing) (a .c) (a .j) (c .if1 .taken)
-
-coefs-down-requires : tie.Need-coefs-down-requires
-coefs-down-requires c κs = search needs
+returns c = sym (pick-true (c .before .args .missing) _ _ (c .if1 .taken))
 
 dot-requires : tie.Need-dot-requires
 dot-requires c κs = search needs
 
 returns-2 : tie.Need-returns-2
-returns-2 c = let a = c .before .before .before .args in slot-out (a .t1) (a .is) (a .missing) (a .c) (a .j) (c .before .before .if1 .left) (c .before .coefs-down .ensures) (c .dot .ensures)
+returns-2 c = c .dot .ensures ∙ sym (pick-false (c .before .before .args .missing) _ _ (c .before .if1 .left))
 
 pub slot-coef-spec : {M : Type 1} → statement M
-slot-coef-spec =
-    tie.close (tie.spec array-read-result returns coefs-down-requires dot-requires returns-2)
+slot-coef-spec = tie.close (tie.spec array-read-result returns dot-requires returns-2)

@@ -13,22 +13,22 @@ add-missing-below : tie.Need-add-missing-below
 add-missing-below c = search needs
 
 missing-below-requires : tie.Need-missing-below-requires
-missing-below-requires c κs = let a = c .args in (omega (arith, c .pre .data-max, c .pre .parity-max), gone-most (a .n) (a .k) (flag (a .miss)) (c .pre))
+missing-below-requires c κs = let a = c .args in (omega (arith, c .pre .1 .data-max, c .pre .1 .parity-max), gone-most (a .n) (a .k) (flag (a .miss)) (c .pre .1))
 
 missing-below-requires-2 : tie.Need-missing-below-requires-2
-missing-below-requires-2 c κs = let a = c .before .args in (omega (arith, c .before .pre .data-max), lost-most (a .n) (a .k) (flag (a .miss)) (c .before .pre))
+missing-below-requires-2 c κs = let a = c .before .args in (omega (arith, c .before .pre .1 .data-max), lost-most (a .n) (a .k) (flag (a .miss)) (c .before .pre .1))
 
 present-parity-requires : tie.Need-present-parity-requires
 present-parity-requires c κs = search needs
 
 system-requires : tie.Need-system-requires
-system-requires c κs = let a = c .before .before .before .before .before .before .args in (is-lt (a .n) (a .k) (flag (a .miss)) (c .before .before .before .before .before .before .pre) (c .before .before .before .present-parity .ensures), ks-lt (a .n) (a .k) (flag (a .miss)) (c .before .before .before .before .before .before .pre) (c .before .before .before .before .missing-below2 .ensures))
+system-requires c κs = let a = c .before .before .before .before .before .before .args in (is-lt (a .n) (a .k) (flag (a .miss)) (c .before .before .before .before .before .before .pre .1) (c .before .before .before .present-parity .ensures), ks-lt (a .n) (a .k) (flag (a .miss)) (c .before .before .before .before .before .before .pre .1) (c .before .before .before .before .missing-below2 .ensures))
 
 inverse-requires : tie.Need-inverse-requires
 inverse-requires c κs = search needs
 
 lost-rows-requires : tie.Need-lost-rows-requires
-lost-rows-requires c κs = let a = c .before .before .before .before .before .before .before .before .args in (c .before .before .before .before .before .before .before .before .pre .data-max, lost-most (a .n) (a .k) (flag (a .miss)) (c .before .before .before .before .before .before .before .before .pre), is-lt (a .n) (a .k) (flag (a .miss)) (c .before .before .before .before .before .before .before .before .pre) (c .before .before .before .before .before .present-parity .ensures))
+lost-rows-requires c κs = let a = c .before .before .before .before .before .before .before .before .args in (c .before .before .before .before .before .before .before .before .pre .0, c .before .before .before .before .before .before .before .before .pre .1 .data-max, lost-most (a .n) (a .k) (flag (a .miss)) (c .before .before .before .before .before .before .before .before .pre .1), is-lt (a .n) (a .k) (flag (a .miss)) (c .before .before .before .before .before .before .before .before .pre .1) (c .before .before .before .before .before .present-parity .ensures))
 
 array-read-unit-row : tie.Need-array-read-unit-row
 array-read-unit-row c = search needs
@@ -37,8 +37,8 @@ unit-row-requires : tie.Need-unit-row-requires
 unit-row-requires c κs =
     let a = c .before .before .before .before .before .before .before .before .before .args in
     let m = flag (a .miss) in
-    let s = c .before .before .before .before .before .before .before .before .before .pre in
-    (s .data-max, lit< tt, ks-lt (a .n) (a .k) m s (c .before .before .before .before .before .before .before .missing-below2 .ensures), parity-unit (a .n) (a .k) m s (c .before .before .before .before .before .before .before .before .missing-below .ensures) (c .before .before .before .before .before .before .before .missing-below2 .ensures) 0 (lit< tt))
+    let s = c .before .before .before .before .before .before .before .before .before .pre .1 in
+    (c .before .before .before .before .before .before .before .before .before .pre .0, s .data-max, lit< tt, ks-lt (a .n) (a .k) m s (c .before .before .before .before .before .before .before .missing-below2 .ensures), parity-unit (a .n) (a .k) m s (c .before .before .before .before .before .before .before .before .missing-below .ensures) (c .before .before .before .before .before .before .before .missing-below2 .ensures) 0 (lit< tt))
 
 array-read-unit-row-2 : tie.Need-array-read-unit-row-2
 array-read-unit-row-2 c = search needs
@@ -47,8 +47,8 @@ unit-row-requires-2 : tie.Need-unit-row-requires-2
 unit-row-requires-2 c κs =
     let a = c .before .before .before .before .before .before .before .before .before .before .args in
     let m = flag (a .miss) in
-    let s = c .before .before .before .before .before .before .before .before .before .before .pre in
-    (s .data-max, lit< tt, ks-lt (a .n) (a .k) m s (c .before .before .before .before .before .before .before .before .missing-below2 .ensures), parity-unit (a .n) (a .k) m s (c .before .before .before .before .before .before .before .before .before .missing-below .ensures) (c .before .before .before .before .before .before .before .before .missing-below2 .ensures) 1 (lit< tt))
+    let s = c .before .before .before .before .before .before .before .before .before .before .pre .1 in
+    (c .before .before .before .before .before .before .before .before .before .before .pre .0, s .data-max, lit< tt, ks-lt (a .n) (a .k) m s (c .before .before .before .before .before .before .before .before .missing-below2 .ensures), parity-unit (a .n) (a .k) m s (c .before .before .before .before .before .before .before .before .before .missing-below .ensures) (c .before .before .before .before .before .before .before .before .missing-below2 .ensures) 1 (lit< tt))
 
 array-read-unit-row-3 : tie.Need-array-read-unit-row-3
 array-read-unit-row-3 c = search needs
@@ -57,13 +57,13 @@ unit-row-requires-3 : tie.Need-unit-row-requires-3
 unit-row-requires-3 c κs =
     let a = c .before .before .before .before .before .before .before .before .before .before .before .args in
     let m = flag (a .miss) in
-    let s = c .before .before .before .before .before .before .before .before .before .before .before .pre in
-    (s .data-max, lit< tt, ks-lt (a .n) (a .k) m s (c .before .before .before .before .before .before .before .before .before .missing-below2 .ensures), parity-unit (a .n) (a .k) m s (c .before .before .before .before .before .before .before .before .before .before .missing-below .ensures) (c .before .before .before .before .before .before .before .before .before .missing-below2 .ensures) 2 (lit< tt))
+    let s = c .before .before .before .before .before .before .before .before .before .before .before .pre .1 in
+    (c .before .before .before .before .before .before .before .before .before .before .before .pre .0, s .data-max, lit< tt, ks-lt (a .n) (a .k) m s (c .before .before .before .before .before .before .before .before .before .missing-below2 .ensures), parity-unit (a .n) (a .k) m s (c .before .before .before .before .before .before .before .before .before .before .missing-below .ensures) (c .before .before .before .before .before .before .before .before .before .missing-below2 .ensures) 2 (lit< tt))
 
 returns : tie.Need-returns
 returns c =
     let a = c .before .before .before .before .before .before .before .before .before .before .before .before .args in
-    rows-made (a .n) (a .k) (flag (a .miss)) (c .before .before .before .before .before .before .before .before .before .before .before .before .pre) (c .before .before .before .before .before .before .before .before .before .present-parity .ensures) (c .before .before .before .before .before .before .before .before .before .before .missing-below2 .ensures) (c .before .before .before .before .before .system .result) (c .before .before .before .before .inverse .result)
+    rows-made (a .n) (a .k) (flag (a .miss)) (c .before .before .before .before .before .before .before .before .before .before .before .before .pre .1) (c .before .before .before .before .before .before .before .before .before .present-parity .ensures) (c .before .before .before .before .before .before .before .before .before .before .missing-below2 .ensures) (c .before .before .before .before .before .system .result) (c .before .before .before .before .inverse .result)
     (c .before .before .before .before .before .system .ensures) (c .before .before .before .before .inverse .ensures) (c .before .before .before .lost-rows .result) (c .before .before .before .lost-rows .ensures) (c .before .before .before .before .before .before .before .before .before .before .before .missing-below .ensures)
     (c .before .before .unit-row .result) (c .before .unit-row2 .result) (c .unit-row3 .result) (c .before .before .unit-row .ensures) (c .before .unit-row2 .ensures) (c .unit-row3 .ensures)
 

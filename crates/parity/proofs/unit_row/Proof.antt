@@ -21,10 +21,10 @@ unfolding unitCoef
 returns c = λ j h. let a = c .before .before .args in sym (pick-true (ltb (a .q) (a .d)) _ _ (lt-ltb (a .q) (a .d) (c .before .if1 .taken)))
 
 sub-parity-row : tie.Need-sub-parity-row
-sub-parity-row c = c .before .before .pre .3 (c .before .if1 .left) (c .if2 .taken) .0
+sub-parity-row c = c .before .before .pre .4 (c .before .if1 .left) (c .if2 .taken) .0
 
 parity-row-requires : tie.Need-parity-row-requires
-parity-row-requires c κs = let w = c .before .before .pre .3 (c .before .if1 .left) (c .if2 .taken) in (c .before .before .pre .0, omega arith, c .before .before .pre .2)
+parity-row-requires c κs = let w = c .before .before .pre .4 (c .before .if1 .left) (c .if2 .taken) in (c .before .before .pre .0, c .before .before .pre .1, omega arith, c .before .before .pre .3)
 
 returns-2 : tie.Need-returns-2
 unfolding unitCoef

@@ -1,6 +1,5 @@
--- `systems::cofactor`. From the contracts of its calls.
-use Rattle.field.specs.Byte.{_⊕_}
-use Rattle.systems.specs.Cramer.{cof}
+-- `systems::cofactor`. From the contracts of its calls, joined in `cofactor-made`.
+use Rattle.systems.specs.Entry.{cofactor-made}
 use borrow.Author.Needs.{needs}
 use Rattle.systems.proofs.cofactor.Statement.{statement}
 use Rattle.systems.proofs.cofactor.Tie as tie
@@ -17,51 +16,53 @@ low-requires-2 c κs = search needs
 high-requires-2 : tie.Need-high-requires-2
 high-requires-2 c κs = search needs
 
-mul-mul : tie.Need-mul-mul
-mul-mul c = search needs
+mul-mul-by : tie.Need-mul-mul-by
+mul-mul-by c = search needs
 
-index-1-mul : tie.Need-index-1-mul
-index-1-mul c = search needs
+index-1-mul-by : tie.Need-index-1-mul-by
+index-1-mul-by c = search needs
 
-index-2-mul : tie.Need-index-2-mul
-index-2-mul c = search needs
+index-2-mul-by : tie.Need-index-2-mul-by
+index-2-mul-by c = search needs
 
-mul-mul-2 : tie.Need-mul-mul-2
-mul-mul-2 c = search needs
+mul-mul-by-2 : tie.Need-mul-mul-by-2
+mul-mul-by-2 c = search needs
 
-index-1-mul-2 : tie.Need-index-1-mul-2
-index-1-mul-2 c = search needs
+index-1-mul-by-2 : tie.Need-index-1-mul-by-2
+index-1-mul-by-2 c = search needs
 
-index-2-mul-2 : tie.Need-index-2-mul-2
-index-2-mul-2 c = search needs
+index-2-mul-by-2 : tie.Need-index-2-mul-by-2
+index-2-mul-by-2 c = search needs
 
-mul-requires : tie.Need-mul-requires
-mul-requires c κs = search needs
+mul-by-requires : tie.Need-mul-by-requires
+mul-by-requires c κs = search needs
 
-mul-mul-3 : tie.Need-mul-mul-3
-mul-mul-3 c = search needs
+mul-mul-by-3 : tie.Need-mul-mul-by-3
+mul-mul-by-3 c = search needs
 
-index-1-mul-3 : tie.Need-index-1-mul-3
-index-1-mul-3 c = search needs
+index-1-mul-by-3 : tie.Need-index-1-mul-by-3
+index-1-mul-by-3 c = search needs
 
-index-2-mul-3 : tie.Need-index-2-mul-3
-index-2-mul-3 c = search needs
+index-2-mul-by-3 : tie.Need-index-2-mul-by-3
+index-2-mul-by-3 c = search needs
 
-mul-mul-4 : tie.Need-mul-mul-4
-mul-mul-4 c = search needs
+mul-mul-by-4 : tie.Need-mul-mul-by-4
+mul-mul-by-4 c = search needs
 
-index-1-mul-4 : tie.Need-index-1-mul-4
-index-1-mul-4 c = search needs
+index-1-mul-by-4 : tie.Need-index-1-mul-by-4
+index-1-mul-by-4 c = search needs
 
-index-2-mul-4 : tie.Need-index-2-mul-4
-index-2-mul-4 c = search needs
+index-2-mul-by-4 : tie.Need-index-2-mul-by-4
+index-2-mul-by-4 c = search needs
 
-mul-requires-2 : tie.Need-mul-requires-2
-mul-requires-2 c κs = search needs
+mul-by-requires-2 : tie.Need-mul-by-requires-2
+mul-by-requires-2 c κs = search needs
 
 returns : tie.Need-returns
-unfolding cof _⊕_
-returns c = cc
+returns c =
+    let a = c .before .before .before .before .before .before .before .before .before .before .args in
+    cofactor-made (a .t3) (a .r) (a .c) (c .before .before .before .before .before .before .before .before .before .low .ensures .1) (c .before .before .before .before .before .before .before .before .high .ensures .1) (c .before .before .before .before .before .before .before .low2 .ensures .1) (c .before .before .before .before .before .before .high2 .ensures .1)
+    (c .before .before .before .mul-by .ensures) (c .mul-by2 .ensures)
 
 pub cofactor-spec : {M : Type 1} → statement M
 cofactor-spec =
@@ -71,18 +72,18 @@ cofactor-spec =
     high-requires
     low-requires-2
     high-requires-2
-    mul-mul
-    index-1-mul
-    index-2-mul
-    mul-mul-2
-    index-1-mul-2
-    index-2-mul-2
-    mul-requires
-    mul-mul-3
-    index-1-mul-3
-    index-2-mul-3
-    mul-mul-4
-    index-1-mul-4
-    index-2-mul-4
-    mul-requires-2
+    mul-mul-by
+    index-1-mul-by
+    index-2-mul-by
+    mul-mul-by-2
+    index-1-mul-by-2
+    index-2-mul-by-2
+    mul-by-requires
+    mul-mul-by-3
+    index-1-mul-by-3
+    index-2-mul-by-3
+    mul-mul-by-4
+    index-1-mul-by-4
+    index-2-mul-by-4
+    mul-by-requires-2
     returns)

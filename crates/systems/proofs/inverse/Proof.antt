@@ -10,17 +10,17 @@ use Rattle.systems.proofs.inverse.Tie as tie
 det-requires : tie.Need-det-requires
 det-requires c κs = search needs
 
-inv-requires : tie.Need-inv-requires
-inv-requires c κs = search needs
+inv-by-requires : tie.Need-inv-by-requires
+inv-by-requires c κs = search needs
 
 inverse-row-requires : tie.Need-inverse-row-requires
-inverse-row-requires c κs = (lit< tt, c .inv .ensures ∙ ap inv (c .before .det .ensures))
+inverse-row-requires c κs = (c .before .before .pre, lit< tt, c .inv-by .ensures ∙ ap inv (c .before .det .ensures))
 
 inverse-row-requires-2 : tie.Need-inverse-row-requires-2
-inverse-row-requires-2 c κs = (lit< tt, c .before .inv .ensures ∙ ap inv (c .before .before .det .ensures))
+inverse-row-requires-2 c κs = (c .before .before .before .pre, lit< tt, c .before .inv-by .ensures ∙ ap inv (c .before .before .det .ensures))
 
 inverse-row-requires-3 : tie.Need-inverse-row-requires-3
-inverse-row-requires-3 c κs = (lit< tt, c .before .before .inv .ensures ∙ ap inv (c .before .before .before .det .ensures))
+inverse-row-requires-3 c κs = (c .before .before .before .before .pre, lit< tt, c .before .before .inv-by .ensures ∙ ap inv (c .before .before .before .det .ensures))
 
 returns : tie.Need-returns
 returns c = search needs
@@ -30,7 +30,7 @@ inverse-spec =
     tie.close
     (tie.spec
     det-requires
-    inv-requires
+    inv-by-requires
     inverse-row-requires
     inverse-row-requires-2
     inverse-row-requires-3
