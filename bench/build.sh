@@ -3,14 +3,16 @@
 # into target/bench, with every peer that can be linked here. Sets `driver`.
 #
 # SPLICEBELL_ARCHIVE_DIR=FOLDER   takes the archive there instead of building it.
+# SPLICEBELL_BEFORE=FOLDER        an earlier archive: its calls are timed in turns with ours, as `before`.
 # ZFEC=FOLDER                     where zfec's fec.c and fec.h lie; by default where Debian's python3-zfec puts them.
 . scripts/host.sh
 
 built=target/bench
 archive=$(scripts/archive "$code")/libabi.a
+products=$(scripts/archive "$code" bench_products)/libbench_products.a
 ZFEC=${ZFEC:-/usr/lib/python3/dist-packages/zfec}
 flags="-O2 -std=gnu11 -Wall -Wextra -Iinclude"
-plain_sources="timing floors coders codes pools pool_times maps catalogue texts lists growth works main"
+plain_sources="timing floors coders products codes pools pool_times maps catalogue texts lists growth works main"
 
 mkdir -p "$built"
 "${RUSTC:-rustc}" --edition 2021 -O -C panic=abort --crate-type staticlib \
@@ -45,9 +47,20 @@ if can_link zfec fec.h fec_encode "-I$ZFEC" "$ZFEC/fec.c"; then
     peer_flags="$peer_flags -DWITH_ZFEC -I$ZFEC" peer_sources="$peer_sources bench/src/zfec.c $built/fec.o"
 fi
 
+# the same names must not stand twice in one program
+before=
+if [ -n "${SPLICEBELL_BEFORE:-}" ]; then
+    before=$built/libbefore.a
+    "$($CC -print-prog-name=nm)" --defined-only "$SPLICEBELL_BEFORE/libabi.a" |
+        sed -n 's/^[0-9a-f]* T splicebell_\(.*\)/splicebell_\1 before_\1/p' >"$built/before.names"
+    "$($CC -print-prog-name=objcopy)" --redefine-syms="$built/before.names" "$SPLICEBELL_BEFORE/libabi.a" "$before"
+    peer_flags="$peer_flags -DWITH_BEFORE"
+    echo "before: $(wc -l <"$built/before.names") calls of an earlier archive"
+fi
+
 sources=
 for name in $plain_sources; do sources="$sources bench/src/$name.c"; done
-libraries="$archive $built/libtwin.a -lpthread -ldl"
+libraries="$archive $products $before $built/libtwin.a -lpthread -ldl"
 driver=$built/bench
 # these are lists of words
 # shellcheck disable=SC2086

@@ -44,6 +44,7 @@ void floor_at_most(const char *what, double measured, double wanted);
 void floors_print(void);
 
 /* The parts. */
+void run_products(void);
 void run_codes(void);
 void run_pools(void);
 void run_maps(void);

@@ -1,5 +1,6 @@
 #include "coders.h"
 
+#include "before.h"
 #include "twin.h"
 
 static uint8_t product(uint8_t a, uint8_t b)
@@ -77,11 +78,30 @@ static void twin_rebuilds(void *context)
     twin_rebuild(g->y, g->missing, g->lost, g->buf, g->length);
 }
 
+#ifdef WITH_BEFORE
+static void before_encodes(void *context)
+{
+    struct group *g = context;
+    must(before_encode(g->y, g->buf, g->length) == 0, "encode accepted");
+}
+
+static void before_rebuilds(void *context)
+{
+    struct group *g = context;
+    must(before_rebuild(g->y, g->missing, g->lost, g->buf, g->length) == 0, "rebuild accepted");
+}
+
+static const struct coder before = {"before", NULL, before_encodes, before_rebuilds};
+#endif
+
 const struct coder ours = {"ours", NULL, our_encode, our_rebuild};
 const struct coder twin = {"Rust twin", NULL, twin_encodes, twin_rebuilds};
 
 const struct coder *const coders[] = {
     &ours,
+#ifdef WITH_BEFORE
+    &before,
+#endif
     &twin,
 #ifdef WITH_ISAL
     &isal_by_16,

@@ -8,15 +8,15 @@ static const struct {
     const char *name;
     void (*run)(void);
 } parts[] = {
-    {"codes", run_codes},         {"pools", run_pools},   {"maps", run_maps},
-    {"catalogue", run_catalogue}, {"texts", run_texts},   {"lists", run_lists},
-    {"growth", run_growth},
+    {"products", run_products},   {"codes", run_codes},   {"pools", run_pools},   {"maps", run_maps},
+    {"catalogue", run_catalogue}, {"texts", run_texts},   {"lists", run_lists},   {"growth", run_growth},
 };
 enum { PARTS = sizeof parts / sizeof *parts };
 
 static int usage(void)
 {
-    fprintf(stderr, "bench [--quick] [--emulated] [--large-pages] [codes|pools|maps|catalogue|texts|lists|growth]...\n"
+    fprintf(stderr, "bench [--quick] [--emulated] [--large-pages] "
+                    "[products|codes|pools|maps|catalogue|texts|lists|growth]...\n"
                     "bench --list\nbench --work NAME REPEATS\n");
     return 2;
 }

@@ -66,18 +66,28 @@ static void compare(uint64_t failed)
 static void row(struct pool *p, const char *what, const char *name, double copy_seconds, double *seconds)
 {
     const struct pass *pass = pass_named(name);
-    struct pool theirs = *p;
-    theirs.calls = &twin_calls;
-    struct timed t[] = {{pass->work, p, 0}, {pass->work, &theirs, 0}};
-    time_in_turns(t, 2);
+    struct pool pools[ANSWERERS];
+    struct timed t[ANSWERERS];
+    for (size_t i = 0; i < ANSWERERS; i++) {
+        pools[i] = *p;
+        pools[i].calls = answerers[i];
+        t[i] = (struct timed){pass->work, &pools[i], 0};
+    }
+    time_in_turns(t, ANSWERERS);
     *seconds = t[0].seconds;
+    p->rebuilt = pools[0].rebuilt;
     double bytes = pass->bytes(p), calls = pass->calls(p);
-    if (bytes == calls)
-        printf("%-44s %9.2f us %9.2f us (%5.2f)\n", what, t[0].seconds / calls * 1e6, t[1].seconds / calls * 1e6,
-               t[1].seconds / t[0].seconds);
-    else
-        printf("%-44s %12.0f %12.0f (%5.2f)  %12.2f\n", what, rate(bytes, t[0].seconds), rate(bytes, t[1].seconds),
-               t[1].seconds / t[0].seconds, rate(bytes, t[0].seconds) / rate(p->m.capacity, copy_seconds));
+    bool of_bytes = bytes != calls;
+    printf("%-44s", what);
+    for (size_t i = 0; i < ANSWERERS; i++) {
+        double figure = of_bytes ? rate(bytes, t[i].seconds) : t[i].seconds / calls * 1e6;
+        printf(of_bytes ? " %12.0f" : " %9.2f us", figure);
+        if (i)
+            printf(" (%5.2f)", t[i].seconds / t[0].seconds);
+    }
+    if (of_bytes)
+        printf("  %12.2f", rate(bytes, t[0].seconds) / rate(p->m.capacity, copy_seconds));
+    printf("\n");
 }
 
 static double seconds_of(work work, void *context)
@@ -159,7 +169,10 @@ static void table(uint64_t tiles)
     double copy_seconds = seconds_of(pass_named("copy")->work, &p);
     printf("\nPool of %s: 8+2 over 24, 4 KiB units, %d tiles, a file of %.1f MB; memcpy of that file %.0f MB/s\n", size,
            (int)tiles, p.m.capacity / 1e6, rate(p.m.capacity, copy_seconds));
-    printf("%-44s %12s %20s  %12s\n", "MB/s, or microseconds a call", "ours", "Rust twin (ours / it)", "ours / memcpy");
+    printf("%-44s %12s", "MB/s, or microseconds a call (ours / it)", "ours");
+    for (size_t i = 1; i < ANSWERERS; i++)
+        printf(" %20s", answerers[i]->name);
+    printf("  %12s\n", "ours / memcpy");
     healthy(&p, size, copy_seconds);
     failed(&p, size, 1, copy_seconds);
     failed(&p, size, 2, copy_seconds);

@@ -1,5 +1,6 @@
 #include "pools.h"
 
+#include "before.h"
 #include "twin.h"
 
 #include <stdlib.h>
@@ -7,6 +8,17 @@
 
 const struct answerer our_calls = {"ours", splicebell_read, splicebell_write, splicebell_repair};
 const struct answerer twin_calls = {"Rust twin", twin_read, twin_write, twin_repair};
+#ifdef WITH_BEFORE
+static const struct answerer before_calls = {"before", before_read, before_write, before_repair};
+#endif
+
+const struct answerer *const answerers[ANSWERERS] = {
+    &our_calls,
+    &twin_calls,
+#ifdef WITH_BEFORE
+    &before_calls,
+#endif
+};
 
 enum { GROUPS_A_CALL = 32 };
 

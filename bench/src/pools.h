@@ -5,7 +5,7 @@
 #include "bench.h"
 #include "splicebell.h"
 
-/* Who answers the pool's calls: ours, or the twin. */
+/* Who answers the pool's calls: ours, the twin, or an earlier archive. */
 struct answerer {
     const char *name;
     uint64_t (*read)(splicebell_layout, splicebell_record, const uint8_t *, size_t, uint64_t, uint8_t *, size_t);
@@ -13,6 +13,14 @@ struct answerer {
     splicebell_repaired (*repair)(splicebell_layout, splicebell_record, uint8_t *, size_t);
 };
 extern const struct answerer our_calls, twin_calls;
+
+/* All of them, ours first. */
+#ifdef WITH_BEFORE
+enum { ANSWERERS = 3 };
+#else
+enum { ANSWERERS = 2 };
+#endif
+extern const struct answerer *const answerers[ANSWERERS];
 
 enum { DRAWN_OFFSETS = 256 };
 

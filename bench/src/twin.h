@@ -4,6 +4,7 @@
 
 #include "splicebell.h"
 
+void twin_products(const uint8_t *a, const uint8_t *b, uint8_t *out, size_t len);
 uint64_t twin_encode(splicebell_layout y, uint8_t *buf, size_t len);
 uint64_t twin_rebuild(splicebell_layout y, const uint64_t *missing, size_t missing_count, uint8_t *buf, size_t len);
 uint64_t twin_read(splicebell_layout y, splicebell_record r, const uint8_t *image, size_t image_len, uint64_t offset,

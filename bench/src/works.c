@@ -1,5 +1,6 @@
 /* Pieces of work by name, for counting what they execute. The names say who does it:
  *
+ *     product:ours                    of one pair of bytes
  *     encode:8+2:4096:ours            code, bytes of a unit
  *     rebuild:8+2:4096:2:ours         and how many units are lost
  *     pool:repair:8+2:20:1:ours       a pass over a pool on 24 targets: code, tiles, failures
@@ -10,6 +11,7 @@
 #include "catalogue.h"
 #include "coders.h"
 #include "pools.h"
+#include "products.h"
 #include "texts.h"
 #include "twin.h"
 
@@ -104,8 +106,21 @@ static int work_on_text(const char *name, long repeats)
     return repeat(strcmp(call, "write") == 0 ? write_whole_text : read_whole_text, &t, repeats, t.text_len, 1);
 }
 
+static int work_on_pairs(const char *name, long repeats)
+{
+    static struct pairs p;
+    const char *who = strchr(name, ':') + 1;
+    draw_pairs(&p);
+    work work = strcmp(who, "ours") == 0       ? our_products
+                : strcmp(who, "shifting") == 0 ? shifted_products
+                                               : twin_makes_products;
+    return repeat(work, &p, repeats, PAIRS, PAIRS);
+}
+
 int do_work(const char *name, long repeats)
 {
+    if (strncmp(name, "product:", 8) == 0)
+        return work_on_pairs(name, repeats);
     if (strncmp(name, "pool:", 5) == 0)
         return work_on_pool(name, repeats);
     if (strncmp(name, "map:", 4) == 0)
@@ -148,6 +163,7 @@ static void list_pools(void)
 
 int list_works(void)
 {
+    printf("product:ours\nproduct:shifting\nproduct:Rust twin\n");
     list_groups();
     list_pools();
     printf("map:ours\nmap:Rust twin\n");

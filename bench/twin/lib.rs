@@ -42,6 +42,16 @@ pub struct ListWritten {
     range: u64,
 }
 
+/// # Safety
+/// The pointers lead to `length` bytes each; nothing else touches `out`.
+#[no_mangle]
+pub unsafe extern "C" fn twin_products(a: *const u8, b: *const u8, out: *mut u8, length: usize) {
+    let pairs = from_raw_parts(a, length).iter().zip(from_raw_parts(b, length));
+    for (product, (a, b)) in from_raw_parts_mut(out, length).iter_mut().zip(pairs) {
+        *product = field::product(*a, *b);
+    }
+}
+
 /// Answers 0, as every call here but the reader of a text and the writer of a list: what is passed is taken to be
 /// sound.
 ///
