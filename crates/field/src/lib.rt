@@ -121,7 +121,7 @@ pub fn inv_by(powers: &[u8; 256], logs: &[u8; 256], a: u8) -> u8
     power_of(powers, 255 - log_of(logs, a))
 }
 
-// The product.
+// The product. By itself it costs a copy of both tables: where there are many, `mul_by`.
 pub fn mul(a: u8, b: u8) -> u8
     ensures { λ r. ⌜ r ≡ product a b ⌝ }
 {

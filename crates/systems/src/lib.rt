@@ -1,4 +1,5 @@
-// The coefficients of the parity code, and small systems over the field with a matrix held by value, rows of rows.
+// The coefficients of the parity code, and small systems over the field with a matrix held by value, rows of rows. What makes products has the
+// field's tables lent.
 ghost use mathlib.Core.Path.{_≡_};
 ghost use Prim.Native.Nat.{ℕ, _<_};
 ghost use lib.ListN.{getD};
