@@ -3,10 +3,10 @@
 ghost use mathlib.Core.Path.{_≡_};
 ghost use Prim.Native.Nat.{ℕ, _<_};
 ghost use lib.ListN.{getD};
-ghost use Rattle.field.specs.Byte.{inv as inverse_of};
+ghost use Rattle.field.specs.Byte.{mul as product};
 ghost use Rattle.field.specs.Tables.{Tables};
 ghost use Rattle.systems.specs.Coef.{coef as coefficient};
-ghost use Rattle.systems.specs.Cramer.{lo, hi, cof, det as determinant, inverse as inverseEntry};
+ghost use Rattle.systems.specs.Cramer.{lo, hi, cof, inverse as inverseEntry};
 ghost use Rattle.systems.specs.System.{systemEntry};
 ghost use Rattle.systems.specs.Matrix.{ent, three-of, square-of, dotOf};
 
@@ -103,27 +103,27 @@ pub fn dot(powers: &[u8; 256], logs: &[u8; 256], u: [u8; 3], v: [u8; 3]) -> u8
     first ^ (second ^ third)
 }
 
-fn det(powers: &[u8; 256], logs: &[u8; 256], m: [[u8; 3]; 3]) -> u8
-    requires { ⌜ Tables (now powers) (now logs) ⌝ }
-    ensures { λ x. ⌜ x ≡ determinant (ent m) ⌝ }
-{
-    let c = [
-        cofactor(powers, logs, m, 0, 0),
-        cofactor(powers, logs, m, 0, 1),
-        cofactor(powers, logs, m, 0, 2),
-    ];
-    dot(powers, logs, m[0], c)
-}
-
-// Row c of the inverse, where d is the inverse of the determinant.
-fn inverse_row(powers: &[u8; 256], logs: &[u8; 256], m: [[u8; 3]; 3], d: u8, c: usize) -> [u8; 3]
-    requires { ⌜ Tables (now powers) (now logs) × (c < 3) × (d ≡ inverse_of (determinant (ent m))) ⌝ }
-    ensures { λ x. ⌜ x ≡ three-of (inverseEntry (ent m) c) ⌝ }
+// The cofactors of column c: times the inverse of the determinant they are row c of the inverse.
+fn cofactors(powers: &[u8; 256], logs: &[u8; 256], m: [[u8; 3]; 3], c: usize) -> [u8; 3]
+    requires { ⌜ Tables (now powers) (now logs) × (c < 3) ⌝ }
+    ensures { λ x. ⌜ x ≡ three-of (λ r. cof (ent m) r c) ⌝ }
 {
     [
-        field::mul_by(powers, logs, cofactor(powers, logs, m, 0, c), d),
-        field::mul_by(powers, logs, cofactor(powers, logs, m, 1, c), d),
-        field::mul_by(powers, logs, cofactor(powers, logs, m, 2, c), d),
+        cofactor(powers, logs, m, 0, c),
+        cofactor(powers, logs, m, 1, c),
+        cofactor(powers, logs, m, 2, c),
+    ]
+}
+
+// Three numbers, each times d.
+fn scaled(powers: &[u8; 256], logs: &[u8; 256], x: [u8; 3], d: u8) -> [u8; 3]
+    requires { ⌜ Tables (now powers) (now logs) ⌝ }
+    ensures { λ y. ⌜ y ≡ three-of (λ r. product (getD x r 0) d) ⌝ }
+{
+    [
+        field::mul_by(powers, logs, x[0], d),
+        field::mul_by(powers, logs, x[1], d),
+        field::mul_by(powers, logs, x[2], d),
     ]
 }
 
@@ -132,11 +132,15 @@ pub fn inverse(powers: &[u8; 256], logs: &[u8; 256], m: [[u8; 3]; 3]) -> [[u8; 3
     requires { ⌜ Tables (now powers) (now logs) ⌝ }
     ensures { λ x. ⌜ x ≡ square-of (inverseEntry (ent m)) ⌝ }
 {
-    let d = field::inv_by(powers, logs, det(powers, logs, m));
+    let first = cofactors(powers, logs, m, 0);
+    let second = cofactors(powers, logs, m, 1);
+    let third = cofactors(powers, logs, m, 2);
+    let det = dot(powers, logs, m[0], [first[0], second[0], third[0]]);
+    let d = field::inv_by(powers, logs, det);
     [
-        inverse_row(powers, logs, m, d, 0),
-        inverse_row(powers, logs, m, d, 1),
-        inverse_row(powers, logs, m, d, 2),
+        scaled(powers, logs, first, d),
+        scaled(powers, logs, second, d),
+        scaled(powers, logs, third, d),
     ]
 }
 
