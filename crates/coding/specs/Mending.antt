@@ -70,8 +70,7 @@ module _ {n k unit : ℕ} {miss : ℕ → Bool} (s : Solvable n k miss) (pos : 0
         ∙ pick-same (ltb (count miss ((v * unit + x) / unit)) q) (stays (v * unit + x) (ap miss (digits-div v l) ∙ t))
 
     -- the missing unit number q
-    module _ {units : List ℕ} {total : ℕ} {rows : List (List ℕ)} {starts : List ℕ} {last : ℕ} (r : Ready n k unit miss units total rows starts last)
-        (h : q < total) where
+    module _ {units : List ℕ} {total : ℕ} (g : Holds (gone n k miss) units total) (h : q < total) where
       abbrev u : ℕ
       u = getD units q 0
 
@@ -79,13 +78,13 @@ module _ {n k unit : ℕ} {miss : ℕ → Bool} (s : Solvable n k miss) (pos : 0
       at = u * unit
 
       among : q < length (gone n k miss)
-      among = omega (arith, r .units-are .count-is)
+      among = omega (arith, g .count-is)
 
       pub turn-lt : q < 3
       turn-lt = le-trans among (gone-most n k miss s)
 
       unit-is : u ≡ getD (gone n k miss) q 0
-      unit-is = held-at (r .units-are) q turn-lt
+      unit-is = held-at g q turn-lt
 
       missing : miss u ≡ true
       missing = ap miss unit-is ∙ those-hold miss (n + k) q among
@@ -147,29 +146,31 @@ module _ {n k unit : ℕ} {miss : ℕ → Bool} (s : Solvable n k miss) (pos : 0
       pub unit-fits : at + unit ≤ length buf
       unit-fits = omega (arith, m .len, unit-end u (n + k) unit inside)
 
-      -- a byte of the unit, as the sum over the slots
-      slots-byte : (x : ℕ) → x < unit → sumAt n (getD rows q []) starts buf x ≡ rebuiltByte n k unit miss old (u * unit + x)
-      unfolding sumAt
-      slots-byte x l =
-          sum-cong n _ _ (λ j i. ap₂ mul (r .rows-are q among j i ∙ ap (λ (v : ℕ). rowOf n k miss v j) (sym unit-is)) (ap (λ (z : ℕ). getD buf (z + x) 0) (r .starts-are j i)
-          ∙ there-same (slot n k miss j) x (slot-there n k miss s j i .1) l (slot-there n k miss s j i .0)))
-          ∙ sym (row-gives n k miss (lost-most n k miss s) (column old unit x) u missing)
-          ∙ sym (byte-at u x l)
+      module _ (rows : List (List ℕ)) (starts : List ℕ) (rows-are : RowsFor n k miss rows)
+          (starts-are : (j : ℕ) → j < n → getD starts j 0 ≡ slot n k miss j * unit) where
+        -- a byte of the unit, as the sum over the slots
+        slots-byte : (x : ℕ) → x < unit → sumAt n (getD rows q []) starts buf x ≡ rebuiltByte n k unit miss old (u * unit + x)
+        unfolding sumAt
+        slots-byte x l =
+            sum-cong n _ _ (λ j i. ap₂ mul (rows-are q among j i ∙ ap (λ (v : ℕ). rowOf n k miss v j) (sym unit-is)) (ap (λ (z : ℕ). getD buf (z + x) 0) (starts-are j i)
+            ∙ there-same (slot n k miss j) x (slot-there n k miss s j i .1) l (slot-there n k miss s j i .0)))
+            ∙ sym (row-gives n k miss (lost-most n k miss s) (column old unit x) u missing)
+            ∙ sym (byte-at u x l)
 
-      pub slots-turn : {new : List ℕ} → Span (λ y. sumAt n (getD rows q []) starts buf (y - at)) at (at + unit) buf new → Mended n k unit miss old new (q + 1)
-      slots-turn = mend-turn (sumAt n (getD rows q []) starts buf) slots-byte
+        pub slots-turn : {new : List ℕ} → Span (λ y. sumAt n (getD rows q []) starts buf (y - at)) at (at + unit) buf new → Mended n k unit miss old new (q + 1)
+        slots-turn = mend-turn (sumAt n (getD rows q []) starts buf) slots-byte
 
-      -- the slots' units lie apart from it
-      pub slots-apart : (j : ℕ) → j < n → Apart (getD starts j 0) at unit (length buf)
-      slots-apart j i =
-          let t = slot-there n k miss s j i in
-          units-apart (slot n k miss j) u (n + k) unit (r .starts-are j i) refl (omega (arith, m .len)) (t .1)
-          (λ (e : slot n k miss j ≡ u). clash (miss u) missing (ap miss (sym e) ∙ t .0))
+        -- the slots' units lie apart from it
+        pub slots-apart : (j : ℕ) → j < n → Apart (getD starts j 0) at unit (length buf)
+        slots-apart j i =
+            let t = slot-there n k miss s j i in
+            units-apart (slot n k miss j) u (n + k) unit (starts-are j i) refl (omega (arith, m .len)) (t .1)
+            (λ (e : slot n k miss j ≡ u). clash (miss u) missing (ap miss (sym e) ∙ t .0))
 
       -- the last lost data unit, where parity unit 0 is there: the other data units are right by now
-      module _ (due : q + 1 ≡ last) where
+      module _ (due : q + 1 ≡ closingOf n miss) where
         lost-all : (miss n ≡ false) × (q + 1 ≡ length (lost n miss))
-        lost-all = closes n miss q (due ∙ r .last-is)
+        lost-all = closes n miss q due
 
         pub closing-data : u < n
         closing-data = subst⁻¹ (λ (v : ℕ). v < n) unit-is (gone-data n k miss s q among (omega (arith, lost-all .1)))

@@ -3,8 +3,8 @@ ghost use mathlib.Core.Path.{_≡_};
 ghost use Prim.Native.Nat.{ℕ, _+_, _-_, _*_, _<_, _≤_};
 ghost use lib.ListN.{length, getD};
 ghost use Rattle.lists.specs.Span.{Span};
-ghost use Rattle.parity.specs.Matrix.{flag};
-ghost use Rattle.parity.specs.Group.{Solvable, lost};
+ghost use Rattle.parity.specs.Matrix.{flag, Holds};
+ghost use Rattle.parity.specs.Group.{Solvable, lost, gone};
 ghost use Rattle.coding.specs.Buffer.{encodedOf, rebuiltOf};
 ghost use Rattle.coding.specs.Closing.{closingOf, closingSum};
 
@@ -65,15 +65,20 @@ fn fill_last(buf: &mut [u8], n: usize, unit: usize, u: usize)
     kernel::combine_in(buf, u * unit, &starts, &ones, n, unit);
 }
 
-// Fills the missing units of a group of n data and k parity units, lowest first.
-pub fn rebuild(buf: &mut [u8], n: usize, k: usize, unit: usize, miss: [bool; 19])
-    requires { ⌜ Solvable n k (flag miss) × (0 < unit) × (length (now buf) ≡ (n + k) * unit) ⌝ }
+// Fills the `total` missing units of a group of n data and k parity units, lowest first: by its row each, but number `last`, counted from 1.
+fn fill_all(
+    buf: &mut [u8],
+    n: usize,
+    k: usize,
+    unit: usize,
+    miss: [bool; 19],
+    units: [usize; 3],
+    total: usize,
+    last: usize,
+)
+    requires { ⌜ Solvable n k (flag miss) × (0 < unit) × (length (now buf) ≡ (n + k) * unit) × Holds (gone n k (flag miss)) units total × (last ≡ closingOf n (flag miss)) ⌝ }
     ensures { λ _. ⌜ now (buf .exit) ≡ rebuiltOf n k unit (flag miss) (now (buf .entry)) ⌝ }
 {
-    let gone = parity::missing_below(miss, n + k);
-    let units = gone.at;
-    let total = gone.count;
-    let last = closing(miss, n);
     let rows = parity::rows(miss, n, k);
     let starts = starts_of(parity::slots(miss, n, k), n, unit, buf.len());
     let mut q = 0;
@@ -87,4 +92,22 @@ pub fn rebuild(buf: &mut [u8], n: usize, k: usize, unit: usize, miss: [bool; 19]
         }
         q += 1;
     }
+}
+
+// Fills the missing units of a group of n data and k parity units. One data unit alone, with parity unit 0 there, needs no row and no inverse.
+pub fn rebuild(buf: &mut [u8], n: usize, k: usize, unit: usize, miss: [bool; 19])
+    requires { ⌜ Solvable n k (flag miss) × (0 < unit) × (length (now buf) ≡ (n + k) * unit) ⌝ }
+    ensures { λ _. ⌜ now (buf .exit) ≡ rebuiltOf n k unit (flag miss) (now (buf .entry)) ⌝ }
+{
+    let found = parity::missing_below(miss, n + k);
+    let units = found.at;
+    let total = found.count;
+    let last = closing(miss, n);
+    if total == 1 {
+        if last == 1 {
+            fill_last(buf, n, unit, units[0]);
+            return;
+        }
+    }
+    fill_all(buf, n, k, unit, miss, units, total, last);
 }

@@ -8,3 +8,4 @@ pub mod Closing
 pub mod Matrix
 pub mod Steps
 pub mod Made
+pub mod Own

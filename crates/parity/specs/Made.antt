@@ -57,7 +57,7 @@ module _ (n k : ℕ) (miss : ℕ → Bool) (s : Solvable n k miss) where
       let p = those-rank miss (n + k) q h in
       below-or-not u n (λ (b : u < n). b) (λ (b : n ≤ u). absurd (omega (arith, length-those miss n, count-mono miss n u b)))
 
-  gone-parity : (q : ℕ) → q < length (gone n k miss) → length (lost n miss) ≤ q → n ≤ getD (gone n k miss) q 0
+  pub gone-parity : (q : ℕ) → q < length (gone n k miss) → length (lost n miss) ≤ q → n ≤ getD (gone n k miss) q 0
   gone-parity q h l =
       let u = getD (gone n k miss) q 0 in
       let p = those-rank miss (n + k) q h in

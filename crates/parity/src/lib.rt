@@ -1,7 +1,7 @@
 // One group of n data and k parity units with some units missing: the units that are read in their place, and for each missing unit its row
 // of coefficients over those. Worked out once for a set of missing units, whatever the bytes are.
 ghost use mathlib.Core.Path.{_≡_};
-ghost use mathlib.Core.Bool.{true, false};
+ghost use mathlib.Core.Bool.{true};
 ghost use Prim.Native.Nat.{ℕ, _+_, _-_, _<_, _≤_};
 ghost use lib.ListN.{length, getD};
 ghost use Rattle.lists.specs.Pick.{pick, bit};
@@ -12,7 +12,7 @@ ghost use Rattle.field.specs.Tables.{Tables};
 ghost use Rattle.systems.specs.Coef.{coef as coefficient};
 ghost use Rattle.systems.specs.Matrix.{ent, three-of, dotOf};
 ghost use Rattle.parity.specs.Matrix.{flag, present, Holds, weightOf, slotCoef, lostCoef, parityCoef, unitCoef, RowsFor};
-ghost use Rattle.parity.specs.Group.{Solvable, lost, gone};
+ghost use Rattle.parity.specs.Group.{Solvable};
 ghost use Rattle.parity.specs.Rows.{slot};
 
 // At most three numbers, in order, with zeros after them.
@@ -288,29 +288,41 @@ fn solved_rows(
     ]
 }
 
-// Whether one data unit alone is missing, and parity unit 0 is there.
-fn is_plain(miss: [bool; 19], n: usize, k: usize) -> bool
-    requires { ⌜ Solvable n k (flag miss) ⌝ }
-    ensures { λ r. ⌜ (r ≡ true → (length (gone n k (flag miss)) ≡ 1) × (length (lost n (flag miss)) ≡ 1) × (flag miss n ≡ false)) ⌝ }
+// The coefficients of the missing unit number q, of `total`, where it is the unit u, which is parity.
+fn own_row(n: usize, total: usize, q: usize, u: usize) -> [u8; 16]
+    requires { ⌜ ((q < total → (n ≤ u) × (u < n + 3))) ⌝ }
+    ensures { λ x. ⌜ (q < total → (j : ℕ) → j < 16 → getD x j 0 ≡ coefficient (u - n) j) ⌝ }
 {
-    let all = missing_below(miss, n + k);
-    let data = missing_below(miss, n);
-    if miss[n] {
-        return false;
+    if q < total {
+        return systems::row(u - n);
     }
-    if all.count != 1 {
-        return false;
-    }
-    data.count == 1
+    [0u8; 16]
 }
 
-// For each missing unit, lowest first, its coefficients over the slots. One that is a plain sum, as most are after a failure, needs no equations.
-// For the others the field's tables are taken once, and lent to all that makes products.
+// The rows of missing units that are all parity: no data is lost, so that each is the sum that it stands for.
+fn own_rows(units: [usize; 3], total: usize, n: usize) -> [[u8; 16]; 3]
+    requires { ⌜ ((q : ℕ) → q < 3 → q < total → (n ≤ getD units q 0) × (getD units q 0 < n + 3)) ⌝ }
+    ensures { λ x. ⌜ ((q : ℕ) → q < 3 → q < total → (j : ℕ) → j < 16 → ent x q j ≡ coefficient (getD units q 0 - n) j) ⌝ }
+{
+    [
+        own_row(n, total, 0, units[0]),
+        own_row(n, total, 1, units[1]),
+        own_row(n, total, 2, units[2]),
+    ]
+}
+
+// For each missing unit, lowest first, its coefficients over the slots. Parity units alone, and one data unit alone, which is a plain sum, need no
+// equations: that is all there is after one failure. For the others the field's tables are taken once, and lent to all that makes products.
 pub fn rows(miss: [bool; 19], n: usize, k: usize) -> [[u8; 16]; 3]
     requires { ⌜ Solvable n k (flag miss) ⌝ }
     ensures { λ x. ⌜ RowsFor n k (flag miss) x ⌝ }
 {
-    if is_plain(miss, n, k) {
+    let gone = missing_below(miss, n + k);
+    let units = gone.at;
+    if n <= units[0] {
+        return own_rows(units, gone.count, n);
+    }
+    if gone.count == 1 {
         return [[1u8; 16], [0u8; 16], [0u8; 16]];
     }
     solved_rows(&field::powers(), &field::logs(), miss, n, k)
