@@ -3,8 +3,20 @@
 use homes::Record;
 use numbers::Layout;
 ghost use mathlib.Core.Path.{_≡_};
+ghost use Rattle.numbers.specs.Layouts.{Valid, imageLength};
 ghost use Rattle.pool.specs.Refusals.{repairRefusal, rangeRefusal, failRefusal, lookRefusal};
 ghost use Rattle.checks.specs.Tests.{insideOf};
+
+// Image length and record, where the layout is good and asks for an image of `image` bytes.
+fn stored_refusal(y: Layout, r: Record, len: usize, image: u64) -> u64
+    requires { ⌜ Valid y × (image ≡ imageLength y) ⌝ }
+    ensures { λ n. ⌜ n ≡ repairRefusal y r len ⌝ }
+{
+    if len as u64 != image {
+        return 2;
+    }
+    homes::record_refusal(y, r)
+}
 
 // Layout, image length and record: all that a repair tests, and what every call tests first.
 pub fn pool_refusal(y: Layout, r: Record, len: usize) -> u64
@@ -15,11 +27,7 @@ pub fn pool_refusal(y: Layout, r: Record, len: usize) -> u64
         return refusal;
     }
     let numbers = numbers::numbers_of(y);
-    let image = numbers.image;
-    if len as u64 != image {
-        return 2;
-    }
-    homes::record_refusal(y, r)
+    stored_refusal(y, r, len, numbers.image)
 }
 
 // Whether a range of `size` bytes of a file of `capacity` bytes from `offset` on lies inside.
@@ -32,15 +40,19 @@ pub fn is_inside(capacity: u64, offset: u64, size: u64) -> bool
     size <= capacity - offset
 }
 
-// A range of `size` bytes of the file from `offset` on.
+// A range of `size` bytes of the file from `offset` on. The numbers of the layout, which take divisions, are worked out once for all tests.
 pub fn range_refusal(y: Layout, r: Record, len: usize, offset: u64, size: usize) -> u64
     ensures { λ n. ⌜ n ≡ rangeRefusal y r len offset size ⌝ }
 {
-    let refusal = pool_refusal(y, r, len);
+    let bad = numbers::refusal(y);
+    if bad != 0 {
+        return bad;
+    }
+    let numbers = numbers::numbers_of(y);
+    let refusal = stored_refusal(y, r, len, numbers.image);
     if refusal != 0 {
         return refusal;
     }
-    let numbers = numbers::numbers_of(y);
     let capacity = numbers.capacity;
     if !is_inside(capacity, offset, size as u64) {
         return 4;

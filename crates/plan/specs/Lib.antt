@@ -2,3 +2,4 @@ pub mod Plans
 pub mod Same
 pub mod Held
 pub mod Steps
+pub mod Whole

@@ -1,10 +1,10 @@
 // A group of a pool as read, write and repair go about it: where the unit of each content lies in the image, which contents are missing, and
 // the coefficients that rebuild them. What hangs on the missing contents alone is worked out once and kept from group to group.
 ghost use mathlib.Core.Path.{_≡_};
-ghost use mathlib.Core.Bool.{true, not};
+ghost use mathlib.Core.Bool.{true, false, not};
 ghost use mathlib.Core.List.{[]};
 ghost use Prim.Native.Nat.{ℕ, _+_, _<_, _≤_};
-ghost use lib.ListN.{length, getD};
+ghost use lib.ListN.{length, getD, replicate};
 ghost use Rattle.lists.specs.Count.{count};
 ghost use Rattle.lists.specs.Those.{those};
 ghost use Rattle.lists.specs.Pick.{pick, bit};
@@ -159,12 +159,29 @@ fn plan_anew(
     }
 }
 
-// The plan of a group of n data and k parity units of u bytes.
-pub fn plan_of(n: usize, k: usize, u: usize, at: [usize; 19], missing: [bool; 19]) -> Plan
-    requires { ⌜ Solvable n k (flag missing) ⌝ }
-    ensures { λ r. ⌜ Planned n k u at missing r ⌝ }
+// The plan of a group that misses nothing, as most do: constants, with no loop to work them out.
+pub fn plan_whole(n: usize, k: usize, u: usize, at: [usize; 19]) -> Plan
+    requires { ⌜ (n ≤ 16) × (k ≤ 3) ⌝ }
+    ensures { λ r. ⌜ Planned n k u at (replicate 19 false) r ⌝ }
 {
-    plan_anew(n, k, u, at, missing, codes())
+    let codes = codes();
+    let rows = Lines {
+        first: [0u8; 16],
+        second: [0u8; 16],
+        third: [0u8; 16],
+    };
+    Plan {
+        n: n,
+        k: k,
+        u: u,
+        gone: 0,
+        at: at,
+        missing: [false; 19],
+        rank: [0usize; 19],
+        slots: [0, 1, 2, 3, 4, 5, 6, 7, 8, 9, 10, 11, 12, 13, 14, 15],
+        rows: rows,
+        codes: codes,
+    }
 }
 
 // The plan of the next group, which keeps all but the places where the same contents are missing.

@@ -1,20 +1,21 @@
 -- What the steps of a survey hand on.
-use mathlib.Core.Path.{_≡_, ap, subst⁻¹, _∙_}
+use mathlib.Core.Path.{_≡_, sym, ap, subst⁻¹, _∙_}
 use mathlib.Core.Bool.{false}
 use mathlib.Core.List.{List}
-use Prim.Native.Nat.{ℕ, _+_, _≤_, _<_}
+use Prim.Native.Nat.{ℕ, _≤_, _<_}
 use native.Mathlib.Omega.{arith}
 use lib.ListN.{getD, replicate, getD-replicate}
-use Rattle.lists.specs.Count.{count-same, count-none}
+use Rattle.lists.specs.Count.{count-same}
 use Rattle.numbers.specs.declared.Layout.{Layout}
 use Rattle.numbers.specs.Layouts.{Valid, width, contents}
 use Rattle.place.specs.Bytes.{spot}
 use Rattle.parity.specs.Group.{Solvable}
 use Rattle.parity.specs.Matrix.{flag}
 use Rattle.homes.specs.declared.Record.{Record}
-use Rattle.homes.specs.Records.{Good}
-use Rattle.homes.specs.Missing.{home, missing}
-use Rattle.homes.specs.MissingLaws.{home-lt}
+use Rattle.homes.specs.Homes.{homes}
+use Rattle.homes.specs.Records.{failed, Good}
+use Rattle.homes.specs.Missing.{targetAt, home, missing}
+use Rattle.homes.specs.MissingLaws.{home-lt, home-alive}
 use Rattle.homes.specs.Standing.{HomesAre}
 use Rattle.homes.specs.StandingLaws.{homes-are}
 use Rattle.pool.specs.Holds.{solvable}
@@ -41,18 +42,7 @@ module _ (y : Layout) (v : Valid y) (R : Record) (g j : ℕ) (le : j ≤ y .k) (
   pub starts-of : (at : List ℕ) → ((c : ℕ) → c < contents y → getD at c 0 ≡ getD (x .starts) (getD r c 0) 0) → StartsUnder y R j g at
   starts-of at e c b = e c b ∙ sited .starts-are (getD r c 0) (home-in c b) ∙ ap (λ (u : ℕ). spot y g u 0) (homes-here c b)
 
--- a group that misses nothing
-pub none-missing : (n k : ℕ) → n ≤ 16 → k ≤ 3 → Solvable n k (flag (replicate 19 false))
-none-missing n k hn hk =
-    record {
-      data-max = hn;
-      parity-max = hk;
-      few =
-          let z = count-none (flag (replicate 19 false)) (n + k) (λ i b. getD-replicate 19 i false false (omega arith)) in
-          omega (arith, z);
-    }
-
--- a group of the pool
+-- a group of the pool can be planned
 module _ (y : Layout) (v : Valid y) (R : Record) (good : Good y R) (g : ℕ) (last : Survey) (w : Surveying y last) (x : Stand) (st : Stands y R g x) where
   pub solvable-here : Solvable (last .plan .n) (last .plan .k) (flag (x .missing))
   solvable-here =
@@ -65,13 +55,49 @@ module _ (y : Layout) (v : Valid y) (R : Record) (good : Good y R) (g : ℕ) (la
         few = subst⁻¹ (λ (m : ℕ). m ≤ y .k) (count-same (flag (x .missing)) (missing y R g) (contents y) (st .flags)) (s .few);
       }))
 
-  pub surveyed-of : (P : Plan) → Planned (last .plan .n) (last .plan .k) (last .plan .u) (x .at) (x .missing) P → Surveyed y R (R .q) g P
-  surveyed-of P p =
+-- the plan of what stands in a group is that of the group
+module _ (y : Layout) (R : Record) (g : ℕ) (x : Stand) (st : Stands y R g x) where
+  pub surveyed-of : (n k u : ℕ) → n ≡ y .n → k ≡ y .k → u ≡ y .u → (P : Plan) → Planned n k u (x .at) (x .missing) P → Surveyed y R (R .q) g P
+  surveyed-of n k u en ek eu P p =
       record {
-        n-is = p .n-is ∙ w .n-is;
-        k-is = p .k-is ∙ w .k-is;
-        u-is = p .u-is ∙ w .u-is;
+        n-is = p .n-is ∙ en;
+        k-is = p .k-is ∙ ek;
+        u-is = p .u-is ∙ eu;
         at-is = λ c b. ap (λ (l : List ℕ). getD l c 0) (p .at-is) ∙ st .starts c b;
-        flags-are = λ c b. p .flags-are c (omega (arith, w .n-is, w .k-is)) ∙ st .flags c b;
+        flags-are = λ c b. p .flags-are c (omega (arith, en, ek)) ∙ st .flags c b;
         right = p .right;
       }
+
+-- under no entry each content is at its own unit
+own-home : (y : Layout) (R : Record) (g j c : ℕ) → j ≡ 0 → c ≡ home y R j g c
+unfolding home homes
+own-home y R g j c none = ap (λ (i : ℕ). home y R i g c) (sym none)
+
+own-starts-under : (y : Layout) (R : Record) (g j : ℕ) → j ≡ 0 → (at : List ℕ) → ((c : ℕ) → c < contents y → getD at c 0 ≡ spot y g c 0) → StartsUnder y R j g at
+own-starts-under y R g j none at e c b = e c b ∙ ap (λ (u : ℕ). spot y g u 0) (own-home y R g j c none)
+
+-- so while nothing is repaired, where the units begin and which of them lie on a failed target tells all
+pub own-stands : (y : Layout) (R : Record) (g : ℕ) → R .q ≡ 0 → (x : Stand) → ((c : ℕ) → c < contents y → getD (x .at) c 0 ≡ spot y g c 0)
+    → ((c : ℕ) → c < contents y → getD (x .missing) c false ≡ failed R (targetAt y g c)) → Stands y R g x
+unfolding missing
+own-stands y R g none x starts flags =
+    record {
+      starts = own-starts-under y R g (R .q) none (x .at) starts;
+      flags = λ c b. flags c b ∙ ap (λ (u : ℕ). failed R (targetAt y g u)) (own-home y R g (R .q) c none);
+    }
+
+-- where all failed targets are repaired nothing is missing, since no home under the whole list lies on one of them
+module _ (y : Layout) (v : Valid y) (R : Record) (good : Good y R) (g : ℕ) (at : List ℕ) where
+  pub mended-stands : R .q ≡ R .k → StartsUnder y R (R .k) g at → Stands y R g (record { at = at; missing = replicate 19 false })
+  unfolding missing
+  mended-stands all starts =
+      record {
+        starts = subst⁻¹ (λ (j : ℕ). StartsUnder y R j g at) all starts;
+        flags = λ c b.
+            getD-replicate 19 c false false (omega (arith, b, v .few-data, v .few-parity))
+            ∙ sym (ap (λ (j : ℕ). failed R (targetAt y g (home y R j g c))) all ∙ home-alive y v R g (R .k) (good .few) c b);
+      }
+
+  -- so it is where none has failed, and each content is at its own unit
+  pub whole-stands : R .k ≡ 0 → ((c : ℕ) → c < contents y → getD at c 0 ≡ spot y g c 0) → Stands y R g (record { at = at; missing = replicate 19 false })
+  whole-stands none e = mended-stands (omega (arith, good .mended, none)) (own-starts-under y R g (R .k) none at e)

@@ -6,13 +6,16 @@ use numbers::Layout;
 use numbers::Shape;
 use plan::Plan;
 ghost use mathlib.Core.Path.{_≡_};
+ghost use mathlib.Core.Bool.{false};
 ghost use Prim.Native.Nat.{ℕ, _≤_, _<_};
 ghost use lib.ListN.{getD};
-ghost use Rattle.numbers.specs.Layouts.{Valid, allGroups};
+ghost use Rattle.numbers.specs.Layouts.{Valid, contents, allGroups};
 ghost use Rattle.numbers.specs.Answers.{Shaped};
 ghost use Rattle.tile.specs.Permutation.{permutationOf};
+ghost use Rattle.place.specs.Bytes.{spot};
 ghost use Rattle.homes.specs.Standing.{InTile};
-ghost use Rattle.homes.specs.Records.{Good};
+ghost use Rattle.homes.specs.Records.{failed, Good};
+ghost use Rattle.homes.specs.Missing.{targetAt};
 ghost use Rattle.survey.specs.Starts.{Sited, StartsUnder, Stands};
 ghost use Rattle.survey.specs.Surveyed.{Surveyed, Surveying};
 
@@ -43,6 +46,45 @@ fn sites_of(y: Layout, s: Shape, to: &[u8; 64], g: u64) -> Sites
     Sites { targets, starts }
 }
 
+// Where a group's contents begin while each is at its own unit.
+fn own_starts(y: Layout, s: Shape, to: &[u8; 64], g: u64) -> [usize; 19]
+    requires { ⌜ InTile y s (now to) g ⌝ }
+    ensures { λ r. ⌜ ((c : ℕ) → c < contents y → getD r c 0 ≡ spot y g c 0) ⌝ }
+{
+    let m = (y.n + y.k) as usize;
+    let mut at = [0usize; 19];
+    let mut cell = place::cell_of(y, s, g, 0);
+    let mut c: usize = 0;
+    while c < m {
+        let a = place::place_at(to, cell);
+        let start = place::spot_of(y, s, a, 0);
+        at[c] = start as usize;
+        cell = place::next_cell(y, cell);
+        c += 1;
+    }
+    at
+}
+
+// Which of a group's contents lie on a failed target while each is at its own unit.
+fn own_missing(y: Layout, s: Shape, r: Record, to: &[u8; 64], g: u64) -> [bool; 19]
+    requires { ⌜ Good y r × InTile y s (now to) g ⌝ }
+    ensures { λ x. ⌜ ((c : ℕ) → c < contents y → getD x c false ≡ failed r (targetAt y g c)) ⌝ }
+{
+    let m = (y.n + y.k) as usize;
+    let failed = r.failed;
+    let k = r.k as usize;
+    let mut missing = [false; 19];
+    let mut cell = place::cell_of(y, s, g, 0);
+    let mut c: usize = 0;
+    while c < m {
+        let a = place::place_at(to, cell);
+        missing[c] = homes::is_listed(failed, k, a.target);
+        cell = place::next_cell(y, cell);
+        c += 1;
+    }
+    missing
+}
+
 // Where the units that are the homes of m contents begin.
 fn home_starts(starts: [usize; 22], homes: [usize; 19], m: usize) -> [usize; 19]
     requires { ⌜ (m ≤ 19) × ((c : ℕ) → c < m → getD homes c 0 < 22) ⌝ }
@@ -64,10 +106,16 @@ pub struct Stand {
     pub missing: [bool; 19],
 }
 
+// Homes are worked out only once something is repaired: before, each content is at its own unit.
 fn stand_of(y: Layout, s: Shape, r: Record, to: &[u8; 64], g: u64) -> Stand
     requires { ⌜ Good y r × InTile y s (now to) g ⌝ }
     ensures { λ x. ⌜ Stands y r g x ⌝ }
 {
+    if r.q == 0 {
+        let at = own_starts(y, s, to, g);
+        let missing = own_missing(y, s, r, to, g);
+        return Stand { at, missing };
+    }
     let n = y.n;
     let spares = y.k as usize;
     let m = (n + y.k) as usize;
@@ -114,13 +162,7 @@ pub fn begin(y: Layout, s: Shape, g: u64) -> Survey
 {
     let tile = g / s.c;
     let to = tile::permutation(y.p, y.cookie, tile);
-    let plan = plan::plan_of(
-        y.n as usize,
-        y.k as usize,
-        y.u as usize,
-        [0usize; 19],
-        [false; 19],
-    );
+    let plan = plan::plan_whole(y.n as usize, y.k as usize, y.u as usize, [0usize; 19]);
     Survey { tile, to, plan }
 }
 
@@ -135,7 +177,8 @@ pub fn tile_to(y: Layout, last: u64, to: [u8; 64], tile: u64) -> [u8; 64]
     tile::permutation(y.p, y.cookie, tile)
 }
 
-// The plan of group g.
+// The plan of group g. Where no target has failed, as mostly, there is nothing to look for but where the units begin; where all that failed are
+// repaired, nothing but where the contents live now.
 pub fn next(last: Survey, y: Layout, s: Shape, r: Record, g: u64) -> Survey
     requires { ⌜ Surveying y last × Valid y × Shaped y s × Good y r × (g < allGroups y) ⌝ }
     ensures { λ w. ⌜ Surveying y w × Surveyed y r (r .q) g (w .plan) ⌝ }
@@ -143,6 +186,16 @@ pub fn next(last: Survey, y: Layout, s: Shape, r: Record, g: u64) -> Survey
     let tile = g / s.c;
     let before = last.to;
     let to = tile_to(y, last.tile, before, tile);
+    if r.k == 0 {
+        let at = own_starts(y, s, &to, g);
+        let plan = plan::plan_whole(y.n as usize, y.k as usize, y.u as usize, at);
+        return Survey { tile, to, plan };
+    }
+    if r.q == r.k {
+        let at = new_starts(y, s, r, &to, g);
+        let plan = plan::plan_whole(y.n as usize, y.k as usize, y.u as usize, at);
+        return Survey { tile, to, plan };
+    }
     let stand = stand_of(y, s, r, &to, g);
     let at = stand.at;
     let missing = stand.missing;

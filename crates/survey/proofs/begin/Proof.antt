@@ -1,5 +1,4 @@
--- `survey::begin` meets its contract: a group that misses nothing can be planned.
-use Rattle.survey.specs.Steps.{none-missing}
+-- `survey::begin` meets its contract, by those of what it calls.
 use borrow.Author.Needs.{needs}
 use Rattle.survey.proofs.begin.Statement.{statement}
 use Rattle.survey.proofs.begin.Tie as tie
@@ -10,11 +9,11 @@ div-tile c = search needs
 permutation-requires : tie.Need-permutation-requires
 permutation-requires c κs = search needs
 
-plan-of-requires : tie.Need-plan-of-requires
-plan-of-requires c κs = none-missing _ _ (c .before .before .pre .0 .few-data) (c .before .before .pre .0 .few-parity)
+plan-whole-requires : tie.Need-plan-whole-requires
+plan-whole-requires c κs = search needs
 
 returns : tie.Need-returns
-returns c = record { to-is = c .before .permutation .ensures; n-is = c .plan-of .ensures .n-is; k-is = c .plan-of .ensures .k-is; u-is = c .plan-of .ensures .u-is; right = c .plan-of .ensures .right }
+returns c = record { to-is = c .before .permutation .ensures; n-is = c .plan-whole .ensures .n-is; k-is = c .plan-whole .ensures .k-is; u-is = c .plan-whole .ensures .u-is; right = c .plan-whole .ensures .right }
 
 pub begin-spec : {M : Type 1} → statement M
-begin-spec = tie.close (tie.spec div-tile permutation-requires plan-of-requires returns)
+begin-spec = tie.close (tie.spec div-tile permutation-requires plan-whole-requires returns)
