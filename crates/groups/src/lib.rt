@@ -4,8 +4,8 @@ ghost use Prim.Native.Nat.{_+_, _-_, _*_, _≤_, _<_, min, max};
 ghost use lib.ListN.{length, getD};
 ghost use Rattle.lists.specs.Pick.{pick};
 ghost use Rattle.plan.specs.Plans.{atOf, missOf, Fits, Apart};
-ghost use Rattle.runs.specs.Run.{runSet, paint};
-ghost use Rattle.runs.specs.Held.{runOf, rankPlace};
+ghost use Rattle.runs.specs.Run.{runSet};
+ghost use Rattle.runs.specs.Held.{heldRun};
 ghost use Rattle.lists.specs.Lays.{Lays};
 ghost use Rattle.groups.specs.Write.{onAt, onIn, valAt, Named, Cut, Uncut};
 ghost use Rattle.groups.specs.Cuts.{unitFrom};
@@ -82,11 +82,10 @@ fn write_part(
     w: Ends,
     lo: usize,
     hi: usize,
-    lost: &mut [u8],
-    par: &mut [u8],
 )
-    requires { ⌜ Fits p (length (now image)) × Apart p × Cut (p .n) (p .u) s a (a + length (now bytes)) (w .v1) (w .o1) (w .v2) (w .o2) × Uncut (p .u) (w .o1) (w .o2) lo hi × (s ≤ 17592186044416) × (length (now lost) ≡ 12288) × (length (now par) ≡ 12288) ⌝ }
-    ensures { λ _. ⌜ Lays (p .n + p .k) (p .u) (atOf p) (onIn lo hi p s a (length (now (bytes .entry)))) (valAt p (now (image .entry)) (now (bytes .entry)) s a) (now (image .entry)) (now (image .exit)) ⌝ }
+    requires { ⌜ Fits p (length (now image)) × Apart p × Cut (p .n) (p .u) s a (a + length (now bytes)) (w .v1) (w .o1) (w .v2) (w .o2) × Uncut (p .u) (w .o1) (w .o2) lo hi × (s ≤ 17592186044416) ⌝ }
+    ensures { λ _. ⌜ Lays (p .n + p .k) (p .u) (atOf p) (onIn lo hi p s a (length (now (bytes .entry))))
+        (valAt p (now (image .entry)) (now (bytes .entry)) s a) (now (image .entry)) (now (image .exit)) ⌝ }
 {
     let u1 = unit_from(w.v1, w.o1, lo);
     let u2 = unit_from(w.v2, w.o2, lo);
@@ -96,65 +95,48 @@ fn write_part(
     if hi <= lo {
         return;
     }
-    updates::write_run(p, image, bytes, s, a, u1, u2 - u1, lo, hi - lo, lost, par);
+    updates::write_run(p, image, bytes, s, a, u1, u2 - u1, lo, hi - lo);
 }
 
-// Writes the bytes that fall into the group whose data begin at file byte s; the bytes begin at file byte a. The scratch is lent: what it
-// holds afterwards does not count.
-pub fn write_group(
-    p: Plan,
-    image: &mut [u8],
-    bytes: &[u8],
-    s: usize,
-    a: usize,
-    lost: &mut [u8],
-    par: &mut [u8],
-)
-    requires { ⌜ Fits p (length (now image)) × Apart p × Named (p .n) (p .u) s a (length (now bytes)) × (length (now lost) ≡ 12288) × (length (now par) ≡ 12288) ⌝ }
+// Writes the bytes that fall into the group whose data begin at file byte s; the bytes begin at file byte a.
+pub fn write_group(p: Plan, image: &mut [u8], bytes: &[u8], s: usize, a: usize)
+    requires { ⌜ Fits p (length (now image)) × Apart p × Named (p .n) (p .u) s a (length (now bytes)) ⌝ }
     ensures { λ _. ⌜ Lays (p .n + p .k) (p .u) (atOf p) (onAt p s a (length (now (bytes .entry)))) (valAt p (now (image .entry)) (now (bytes .entry)) s a) (now (image .entry)) (now (image .exit)) ⌝ }
 {
     let w = ends_of(p.n, p.u, s, a, bytes.len());
     let m1 = least(w.o1, w.o2);
     let m2 = most(w.o1, w.o2);
-    write_part(p, image, bytes, s, a, w, 0, m1, lost, par);
-    write_part(p, image, bytes, s, a, w, m1, m2, lost, par);
-    write_part(p, image, bytes, s, a, w, m2, p.u, lost, par);
+    write_part(p, image, bytes, s, a, w, 0, m1);
+    write_part(p, image, bytes, s, a, w, m1, m2);
+    write_part(p, image, bytes, s, a, w, m2, p.u);
 }
 
 // ---- repair
 
-fn mend_run(p: Plan, homes: [usize; 19], lost: &[u8], image: &mut [u8], c: usize)
-    requires { ⌜ Fits p (length (now image)) × MendFits p homes (length (now image)) × (c < p .n + p .k) × (length (now lost) ≡ 12288) ⌝ }
-    ensures { λ _. ⌜ now (image .exit) ≡ pick (missOf p c) (runSet (getD homes c 0) (p .u) (runOf (now (lost .entry)) (rankPlace p c)) (now (image .entry))) (now (image .entry)) ⌝ }
+// Stores content c, where it is missing, rebuilt, at its new home.
+fn mend_unit(p: Plan, homes: [usize; 19], image: &mut [u8], c: usize)
+    requires { ⌜ Fits p (length (now image)) × MendFits p homes (length (now image)) × (c < p .n + p .k) ⌝ }
+    ensures { λ _. ⌜ now (image .exit) ≡ pick (missOf p c) (runSet (getD homes c 0) (p .u) (heldRun p (now (image .entry)) 0 c) (now (image .entry))) (now (image .entry)) ⌝ }
 {
     let missing = p.missing;
     if missing[c] {
-        let rank = p.rank;
         let to = homes[c];
-        let from = rank[c] * 4096;
-        runs::put_run(image, to, lost, from, p.u);
+        runs::mend_run(p, image, c, to);
     }
 }
 
-fn mend_runs(p: Plan, homes: [usize; 19], lost: &[u8], image: &mut [u8])
-    requires { ⌜ Fits p (length (now image)) × MendFits p homes (length (now image)) × (length (now lost) ≡ 12288) ⌝ }
-    ensures { λ _. ⌜ now (image .exit) ≡ paint (missOf p) (λ c. getD homes c 0) (p .u) (λ c. runOf (now (lost .entry)) (rankPlace p c)) (p .n + p .k) (now (image .entry)) ⌝ }
+// Stores each missing content, rebuilt, at its new home, one unit after another in rising order. A store changes no present content, so what
+// the later ones are rebuilt from is what stood there at first.
+pub fn repair_group(p: Plan, homes: [usize; 19], image: &mut [u8])
+    requires { ⌜ Fits p (length (now image)) × MendFits p homes (length (now image)) ⌝ }
+    ensures { λ _. ⌜ now (image .exit) ≡ groupMended p homes (now (image .entry)) ⌝ }
 {
     let m = p.n + p.k;
     let mut c: usize = 0;
     while c < m {
-        mend_run(p, homes, lost, image, c);
+        mend_unit(p, homes, image, c);
         c += 1;
     }
-}
-
-// Stores each missing content, rebuilt, at its new home.
-pub fn repair_group(p: Plan, homes: [usize; 19], image: &mut [u8], lost: &mut [u8])
-    requires { ⌜ Fits p (length (now image)) × MendFits p homes (length (now image)) × (length (now lost) ≡ 12288) ⌝ }
-    ensures { λ _. ⌜ now (image .exit) ≡ groupMended p homes (now (image .entry)) ⌝ }
-{
-    runs::rebuild_runs(p, image, 0, p.u, p.n + p.k, lost);
-    mend_runs(p, homes, lost, image);
 }
 
 // ---- reading

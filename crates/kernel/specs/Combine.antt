@@ -11,6 +11,7 @@ use Rattle.field.specs.Byte.{_⊕_, scale, mul}
 use Rattle.field.specs.Laws.{zero-mul}
 use Rattle.field.specs.Sum.{sumTo, sum-cong, sum-zero}
 use Rattle.kernel.specs.Horner.{poly-cong, plane, horner}
+use Rattle.lists.specs.Pick.{below-or-not}
 use Rattle.lists.specs.Span.{Span, span-join}
 use Rattle.kernel.specs.Plan.{picked, planned, Reach, Filled}
 use Rattle.kernel.specs.Fill.{Planes}
@@ -30,6 +31,22 @@ block-span h g at o m e b {old} {new} q a s =
       before = s .before;
       after = λ y i. s .after y (omega arith);
     }
+
+-- a span of f, then one that begins in it or at its end and has f too
+pub span-over : (f g : ℕ → ℕ) (a b c e : ℕ) {l m n : List ℕ} → a ≤ b → b ≤ c → c ≤ e → Span f a c l m → Span g b e m n
+    → ((y : ℕ) → b ≤ y → y < e → g y ≡ f y) → Span f a e l n
+span-over f g a b c e p q r s t v =
+    record {
+      len = t .len ∙ s .len;
+      done = λ y i j.
+          below-or-not y b (λ (z : y < b). t .before y z ∙ s .done y i (omega arith)) (λ (z : b ≤ y). t .done y z j ∙ v y z j);
+      before = λ y i. t .before y (omega arith) ∙ s .before y i;
+      after = λ y i. t .after y i ∙ s .after y (omega arith);
+    }
+
+-- places that hold f hold it still
+pub span-again : {f : ℕ → ℕ} {a e : ℕ} {l m : List ℕ} → Span f a e l m → Span f a e m m
+span-again s = record { len = refl; done = s .done; before = λ y i. refl; after = λ y i. refl }
 
 pub reach-to : {list : List ℕ} {base count end end′ len : ℕ} → Reach list base count end len → end′ ≤ end → Reach list base count end′ len
 reach-to r h = record { few = r .few; inside = r .inside; ends = λ q i. let w = r .ends q i in omega arith }

@@ -29,7 +29,7 @@ pub record Reach (list : List ℕ) (base count end len : ℕ) : Type 0 where
 
 -- the first m places of r hold f
 pub record Filled (f : ℕ → ℕ) (m : ℕ) (r : List ℕ) : Type 0 where
-  pub len : length r ≡ 128
+  pub len : length r ≡ 192
   pub at : (i : ℕ) → i < m → getD r i 0 ≡ f i
 
 -- the byte at `place` of the sum that a plan names
@@ -88,7 +88,7 @@ digit-turn f top k k′ m {l} {l′} {l″} e h a b d =
           ∙ ap (λ (z : ℕ). poly z k′ (f i)) (let w : suc (top - k) ≡ top - k′ = omega arith in w);
     }
 
-pub digits-none : (f : ℕ → ℕ → ℕ) (top m : ℕ) (l : List ℕ) → length l ≡ 128 → allZero l ≡ true → Filled (λ i. poly (top - top) top (f i)) m l
+pub digits-none : (f : ℕ → ℕ → ℕ) (top m : ℕ) (l : List ℕ) → length l ≡ 192 → allZero l ≡ true → Filled (λ i. poly (top - top) top (f i)) m l
 unfolding poly
 digits-none f top m l n t =
     record { len = n; at = λ i j. zero-at l t i ∙ ap (λ (z : ℕ). poly z top (f i)) (let w : 0 ≡ top - top = omega arith in w) }

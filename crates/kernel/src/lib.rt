@@ -1,4 +1,4 @@
-// Sums of multiples of runs of bytes: 128 bytes at a time in a local array, digit after digit of the factors, highest first (Horner's rule).
+// Sums of multiples of runs of bytes: a block at a time in a local array, digit after digit of the factors, highest first (Horner's rule).
 // Which runs each digit adds is planned once a call, so that no factor is looked at in the loops over bytes.
 ghost use mathlib.Core.Path.{_≡_};
 ghost use mathlib.Core.Bool.{false};
@@ -12,8 +12,8 @@ ghost use Rattle.kernel.specs.Combine.{sumAt};
 ghost use Rattle.kernel.specs.InPlace.{Apart};
 
 // Doubles the first m bytes.
-fn double_run(acc: &mut [u8; 128], m: usize)
-    requires { ⌜ (length (now acc) ≡ 128) × (m ≤ 128) ⌝ }
+fn double_run(acc: &mut [u8; 192], m: usize)
+    requires { ⌜ (length (now acc) ≡ 192) × (m ≤ 192) ⌝ }
     ensures { λ _. ⌜ Span (λ i. double (getD (now (acc .entry)) i 0)) 0 m (now (acc .entry)) (now (acc .exit)) ⌝ }
 {
     let mut i = 0;
@@ -24,8 +24,8 @@ fn double_run(acc: &mut [u8; 128], m: usize)
 }
 
 // Adds m bytes of src from s on.
-fn xor_run(acc: &mut [u8; 128], src: &[u8], s: usize, m: usize)
-    requires { ⌜ (length (now acc) ≡ 128) × (m ≤ 128) × (s + m ≤ length (now src)) ⌝ }
+fn xor_run(acc: &mut [u8; 192], src: &[u8], s: usize, m: usize)
+    requires { ⌜ (length (now acc) ≡ 192) × (m ≤ 192) × (s + m ≤ length (now src)) ⌝ }
     ensures { λ _. ⌜ Span (λ i. getD (now (acc .entry)) i 0 ⊕ getD (now (src .entry)) (s + i) 0) 0 m (now (acc .entry)) (now (acc .exit)) ⌝ }
 {
     let mut i = 0;
@@ -37,7 +37,7 @@ fn xor_run(acc: &mut [u8; 128], src: &[u8], s: usize, m: usize)
 
 // Adds the `count` runs whose starts stand in `list` from `base` on, m bytes of each, from o on.
 fn add_plane(
-    acc: &mut [u8; 128],
+    acc: &mut [u8; 192],
     src: &[u8],
     list: &[usize; 128],
     base: usize,
@@ -45,7 +45,7 @@ fn add_plane(
     o: usize,
     m: usize,
 )
-    requires { ⌜ (length (now acc) ≡ 128) × (m ≤ 128) × Reach (now list) base count (o + m) (length (now src)) ⌝ }
+    requires { ⌜ (length (now acc) ≡ 192) × (m ≤ 192) × Reach (now list) base count (o + m) (length (now src)) ⌝ }
     ensures { λ _. ⌜ Span (λ i. getD (now (acc .entry)) i 0 ⊕ picked (now (src .entry)) (now (list .entry)) base count (o + i)) 0 m (now (acc .entry)) (now (acc .exit)) ⌝ }
 {
     let mut q = 0;
@@ -57,8 +57,8 @@ fn add_plane(
 }
 
 // Doubles the first m bytes, unless they are zeros yet.
-fn double_from(acc: &mut [u8; 128], on: bool, m: usize)
-    requires { ⌜ (length (now acc) ≡ 128) × (m ≤ 128) × ((on ≡ false) → (i : ℕ) → i < m → getD (now acc) i 0 ≡ 0) ⌝ }
+fn double_from(acc: &mut [u8; 192], on: bool, m: usize)
+    requires { ⌜ (length (now acc) ≡ 192) × (m ≤ 192) × ((on ≡ false) → (i : ℕ) → i < m → getD (now acc) i 0 ≡ 0) ⌝ }
     ensures { λ _. ⌜ Span (λ i. double (getD (now (acc .entry)) i 0)) 0 m (now (acc .entry)) (now (acc .exit)) ⌝ }
 {
     if on {
@@ -66,7 +66,7 @@ fn double_from(acc: &mut [u8; 128], on: bool, m: usize)
     }
 }
 
-// The sum, m bytes from o on, of the runs that the plan names: digit after digit, highest first. A whole block has the literal 128 for m, and its
+// The sum, m bytes from o on, of the runs that the plan names: digit after digit, highest first. A whole block has a literal for m, and its
 // loops become vectors once they are inlined.
 fn block(
     src: &[u8],
@@ -75,11 +75,11 @@ fn block(
     top: usize,
     o: usize,
     m: usize,
-) -> [u8; 128]
-    requires { ⌜ (m ≤ 128) × (top ≤ 8) × ((k : ℕ) → k < top → Reach (now list) (k * 16) (getD (now counts) k 0) (o + m) (length (now src))) ⌝ }
+) -> [u8; 192]
+    requires { ⌜ (m ≤ 192) × (top ≤ 8) × ((k : ℕ) → k < top → Reach (now list) (k * 16) (getD (now counts) k 0) (o + m) (length (now src))) ⌝ }
     ensures { λ r. ⌜ Filled (λ i. planned (now (src .entry)) (now (list .entry)) (now (counts .entry)) top (o + i)) m r ⌝ }
 {
-    let mut acc = [0u8; 128];
+    let mut acc = [0u8; 192];
     let mut k = top;
     while 0 < k {
         double_from(&mut acc, k < top, m);
@@ -103,29 +103,45 @@ fn digit(x: u8, k: usize) -> usize
     wide((x >> k) % 2)
 }
 
-// Writes the starts of the runs whose factor has digit k into `list` from k * 16 on, and answers how many.
-fn fill_plane(
-    list: &mut [usize; 128],
-    starts: &[usize; 16],
-    coefs: &[u8; 16],
-    n: usize,
-    k: usize,
-) -> usize
-    requires { ⌜ (length (now list) ≡ 128) × (n ≤ 16) × (k < 8) ⌝ }
-    ensures { λ r. ⌜ (length (now (list .exit)) ≡ 128) × Plane (now (starts .entry)) (now (coefs .entry)) n k (now (list .exit)) r × ((q : ℕ) → q < k * 16 → getD (now (list .exit)) q 0 ≡ getD (now (list .entry)) q 0) ⌝ }
+// Writes the starts of the runs whose factor has the lowest digit into `list`, and answers how many.
+fn fill_lowest(list: &mut [usize; 128], starts: &[usize; 16], coefs: &[u8; 16], n: usize) -> usize
+    requires { ⌜ (length (now list) ≡ 128) × (n ≤ 16) ⌝ }
+    ensures { λ r. ⌜ Plane (now (starts .entry)) (now (coefs .entry)) n 0 (now (list .exit)) r ⌝ }
 {
-    let base = k * 16;
     let mut c: usize = 0;
     let mut j = 0;
     while j < n {
-        list[base + c] = starts[j];
-        c += digit(coefs[j], k);
+        list[c] = starts[j];
+        c += digit(coefs[j], 0);
         j += 1;
     }
     c
 }
 
-// The plan: for each digit below `top` a list of starts, and how many each has.
+// Source j in the plan: its start goes to the end of the list of each digit, and counts where its factor has the digit. With the literal 8 the loop
+// is straight code once it is inlined, and the eight counts stay in registers.
+fn spread(
+    list: &mut [usize; 128],
+    counts: &mut [usize; 8],
+    starts: &[usize; 16],
+    coefs: &[u8; 16],
+    j: usize,
+)
+    requires { ⌜ (length (now list) ≡ 128) × (length (now counts) ≡ 8) × (j < 16) × Planes (now starts) (now coefs) j (now list) (now counts) 8 ⌝ }
+    ensures { λ _. ⌜ (length (now (list .exit)) ≡ 128) × (length (now (counts .exit)) ≡ 8) × Planes (now (starts .entry)) (now (coefs .entry)) (j + 1) (now (list .exit)) (now (counts .exit)) 8 ⌝ }
+{
+    let s = starts[j];
+    let c = coefs[j];
+    let mut k = 0;
+    while k < 8 {
+        let q = counts[k];
+        list[k * 16 + q] = s;
+        counts[k] = q + digit(c, k);
+        k += 1;
+    }
+}
+
+// The plan: for each digit below `top` a list of starts, and how many each has. Factors of one digit have one list, and all others all eight.
 fn plan(
     list: &mut [usize; 128],
     starts: &[usize; 16],
@@ -137,11 +153,15 @@ fn plan(
     ensures { λ r. ⌜ Planes (now (starts .entry)) (now (coefs .entry)) n (now (list .exit)) r top ⌝ }
 {
     let mut counts = [0usize; 8];
-    let mut k = 0;
-    while k < top {
-        let c = fill_plane(list, starts, coefs, n, k);
-        counts[k] = c;
-        k += 1;
+    if top < 2 {
+        let c = fill_lowest(list, starts, coefs, n);
+        counts[0] = c;
+        return counts;
+    }
+    let mut j = 0;
+    while j < n {
+        spread(list, &mut counts, starts, coefs, j);
+        j += 1;
     }
     counts
 }
@@ -198,8 +218,8 @@ fn top_of(coefs: &[u8; 16], n: usize) -> usize
 }
 
 // Adds the first m bytes of b to those from o on.
-fn add_block(out: &mut [u8], b: &[u8; 128], o: usize, m: usize)
-    requires { ⌜ (m ≤ 128) × (o + m ≤ length (now out)) ⌝ }
+fn add_block(out: &mut [u8], b: &[u8; 192], o: usize, m: usize)
+    requires { ⌜ (m ≤ 192) × (o + m ≤ length (now out)) ⌝ }
     ensures { λ _. ⌜ Span (λ y. getD (now (out .entry)) y 0 ⊕ getD (now (b .entry)) (y - o) 0) o (o + m) (now (out .entry)) (now (out .exit)) ⌝ }
 {
     let mut i = 0;
@@ -210,8 +230,8 @@ fn add_block(out: &mut [u8], b: &[u8; 128], o: usize, m: usize)
 }
 
 // Puts the first m bytes of b in place of those from o on.
-pub fn put_block(out: &mut [u8], b: &[u8; 128], o: usize, m: usize)
-    requires { ⌜ (m ≤ 128) × (o + m ≤ length (now out)) ⌝ }
+pub fn put_block(out: &mut [u8], b: &[u8], o: usize, m: usize)
+    requires { ⌜ (m ≤ length (now b)) × (o + m ≤ length (now out)) ⌝ }
     ensures { λ _. ⌜ Span (λ y. getD (now (b .entry)) (y - o) 0) o (o + m) (now (out .entry)) (now (out .exit)) ⌝ }
 {
     let mut i = 0;
@@ -233,7 +253,8 @@ fn add_rest(
     len: usize,
 )
     requires { ⌜ (o ≤ len) × (len ≤ o + 128) × (to + len ≤ length (now out)) × (top ≤ 8) × ((k : ℕ) → k < top → Reach (now list) (k * 16) (getD (now counts) k 0) len (length (now src))) ⌝ }
-    ensures { λ _. ⌜ Span (λ y. getD (now (out .entry)) y 0 ⊕ planned (now (src .entry)) (now (list .entry)) (now (counts .entry)) top (y - to)) (to + o) (to + len) (now (out .entry)) (now (out .exit)) ⌝ }
+    ensures { λ _. ⌜ Span (λ y. getD (now (out .entry)) y 0 ⊕ planned (now (src .entry)) (now (list .entry)) (now (counts .entry)) top (y - to))
+        (to + o) (to + len) (now (out .entry)) (now (out .exit)) ⌝ }
 {
     let m = len - o;
     if 0 < m {
@@ -270,6 +291,76 @@ pub fn combine(
     add_rest(out, to, src, &list, &counts, top, o, len);
 }
 
+// Where the last block begins, once fewer than 128 bytes from o on are left: those that end a run of 128 or more go as a whole block, over bytes
+// that hold their sum already, since only a block whose length is known to the compiler is made of whole vectors.
+fn rest_from(o: usize, len: usize) -> usize
+    requires { ⌜ (o ≤ len) × (len ≤ o + 128) ⌝ }
+    ensures { λ r. ⌜ (r ≤ o) × (len ≤ r + 128) ⌝ }
+{
+    if o < len {
+        if 128 <= len {
+            return len - 128;
+        }
+    }
+    o
+}
+
+// Puts into the bytes of `out` from `to + o` on, which are left when no whole block is, up to `to + len`.
+fn put_rest_of(
+    out: &mut [u8],
+    to: usize,
+    src: &[u8],
+    list: &[usize; 128],
+    counts: &[usize; 8],
+    top: usize,
+    o: usize,
+    len: usize,
+)
+    requires { ⌜ (o ≤ len) × (len ≤ o + 128) × (to + len ≤ length (now out)) × (top ≤ 8) × ((k : ℕ) → k < top → Reach (now list) (k * 16) (getD (now counts) k 0) len (length (now src))) ⌝ }
+    ensures { λ _. ⌜ Span (λ y. planned (now (src .entry)) (now (list .entry)) (now (counts .entry)) top (y - to)) (to + o) (to + len) (now (out .entry)) (now (out .exit)) ⌝ }
+{
+    let m = len - o;
+    if m == 128 {
+        let b = block(src, list, counts, top, o, 128);
+        put_block(out, &b, to + o, 128);
+        return;
+    }
+    if 0 < m {
+        let b = block(src, list, counts, top, o, m);
+        put_block(out, &b, to + o, m);
+    }
+}
+
+// Puts into the `len` bytes of `out` from `to` on the sum of coefs[j] times the run of `src` that starts at starts[j], over j < n.
+pub fn combine_put(
+    out: &mut [u8],
+    to: usize,
+    src: &[u8],
+    starts: &[usize; 16],
+    coefs: &[u8; 16],
+    n: usize,
+    len: usize,
+)
+    requires { ⌜ (n ≤ 16) × (to + len ≤ length (now out)) × ((j : ℕ) → j < n → getD (now starts) j 0 + len ≤ length (now src)) ⌝ }
+    ensures { λ _. ⌜ Span (λ y. sumAt n (now (coefs .entry)) (now (starts .entry)) (now (src .entry)) (y - to)) to (to + len) (now (out .entry)) (now (out .exit)) ⌝ }
+{
+    let top = top_of(coefs, n);
+    let mut list = [0usize; 128];
+    let counts = plan(&mut list, starts, coefs, n, top);
+    let mut o = 0;
+    while 320 <= len - o {
+        let b = block(src, &list, &counts, top, o, 192);
+        put_block(out, &b, to + o, 192);
+        o += 192;
+    }
+    while 128 <= len - o {
+        let b = block(src, &list, &counts, top, o, 128);
+        put_block(out, &b, to + o, 128);
+        o += 128;
+    }
+    put_rest_of(out, to, src, &list, &counts, top, rest_from(o, len), len);
+}
+
 // The same for one slice: the bytes from `at + o` on that are left when no whole block is.
 fn put_rest(
     buf: &mut [u8],
@@ -284,10 +375,27 @@ fn put_rest(
     ensures { λ _. ⌜ Span (λ y. planned (now (buf .entry)) (now (list .entry)) (now (counts .entry)) top (y - at)) (at + o) (at + len) (now (buf .entry)) (now (buf .exit)) ⌝ }
 {
     let m = len - o;
+    if m == 128 {
+        let b = block(buf, list, counts, top, o, 128);
+        put_block(buf, &b, at + o, 128);
+        return;
+    }
     if 0 < m {
         let b = block(buf, list, counts, top, o, m);
         put_block(buf, &b, at + o, m);
     }
+}
+
+// Where the block after the first `end` bytes of a run at `at` begins: from the second on at a multiple of 64 of the slice, over bytes that hold
+// their sum already. Units mostly begin at such multiples, and then no vector of any source lies across two lines of the cache.
+fn block_from(at: usize, end: usize) -> usize
+    requires { ⌜ at + end < 18446744073709551616 ⌝ }
+    ensures { λ o. ⌜ (o ≤ end) × (end < o + 64) ⌝ }
+{
+    if end < 64 {
+        return end;
+    }
+    end - (at + end) % 64
 }
 
 // Puts into the `len` bytes from `at` on the sum of coefs[j] times the run that starts at starts[j], over j < n. The runs lie apart from those bytes.
@@ -306,10 +414,16 @@ pub fn combine_in(
     let mut list = [0usize; 128];
     let counts = plan(&mut list, starts, coefs, n, top);
     let mut o = 0;
+    while 320 <= len - o {
+        let from = block_from(at, o);
+        let b = block(buf, &list, &counts, top, from, 192);
+        put_block(buf, &b, at + from, 192);
+        o = from + 192;
+    }
     while 128 <= len - o {
         let b = block(buf, &list, &counts, top, o, 128);
         put_block(buf, &b, at + o, 128);
         o += 128;
     }
-    put_rest(buf, &list, &counts, top, at, o, len);
+    put_rest(buf, &list, &counts, top, at, rest_from(o, len), len);
 }

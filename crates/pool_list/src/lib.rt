@@ -49,19 +49,17 @@ fn sum_of_lengths(ranges: &[[u64; 2]]) -> u64
     total
 }
 
-// Writes the ranges one after the other. One scratch serves them.
+// Writes the ranges one after the other.
 fn write_ranges(y: Layout, r: Record, image: &mut [u8], ranges: &[[u64; 2]], bytes: &[u8])
     requires { ⌜ ListAsked y r (length (now image)) (now ranges) (length (now bytes)) ⌝ }
     ensures { λ _. ⌜ now (image .exit) ≡ afterRanges y r (now (image .entry)) (now (ranges .entry)) (now (bytes .entry)) (length (now (ranges .entry))) ⌝ }
 {
-    let mut lost = [0u8; 12288];
-    let mut par = [0u8; 12288];
     let mut at = 0;
     let mut i = 0;
     while i < ranges.len() {
         let offset = ranges[i][0];
         let end = at + ranges[i][1] as usize;
-        range_write::write_range(y, r, image, offset, &bytes[at..end], &mut lost, &mut par);
+        range_write::write_range(y, r, image, offset, &bytes[at..end]);
         at = end;
         i += 1;
     }

@@ -73,22 +73,28 @@ module _ (y : Layout) (v : Valid y) (R : Record) (good : Good y R) (g : ℕ) (hg
             };
       }
 
-  -- the new homes lie in the image, and no two meet
+  -- the new homes lie in the image and no two meet; a present content stays where it is
   new-inside : (c : ℕ) → c < P .n + P .k → getD starts c 0 + P .u ≤ imageLength y
   new-inside = fits y v R good (R .k) (good .few) g hg moved moved-surveyed .inside
 
   new-fits : MendFits P starts (imageLength y)
-  new-fits = record { inside = λ c h t. new-inside c h }
+  new-fits =
+      record {
+        inside = λ c h t. new-inside c h;
+        apart = apart y v R good (R .k) (good .few) g hg moved moved-surveyed .apart;
+        stays = λ d h t.
+            let b : d < contents y = omega (arith, s .n-is, s .k-is) in
+            new d b
+            ∙ ap (λ (u : ℕ). spot y g u 0) (home-stays y v R g (good .mended) d (sym (s .flags-are d b) ∙ t))
+            ∙ sym (s .at-is d b);
+      }
 
   pub group-fits : (size : ℕ) → size ≡ imageLength y → Fits P size × MendFits P starts size
   group-fits size e = (fits-at (fits y v R good (R .q) (omega (arith, good .mended, good .few)) g hg P s) e, mend-at new-fits e)
 
-  new-apart : (c d x z : ℕ) → c < P .n + P .k → d < P .n + P .k → x < P .u → z < P .u → getD starts c 0 + x ≡ getD starts d 0 + z → c ≡ d
-  new-apart = apart y v R good (R .k) (good .few) g hg moved moved-surveyed .apart
-
   pub mended-group : (img img′ : List ℕ) → length img ≡ imageLength y → img′ ≡ groupMended P starts img → Mended y R g img img′
   mended-group img img′ len e =
-      let l = mend-lays P starts img img′ (mend-at new-fits len) new-apart e in
+      let l = mend-lays P starts img img′ (mend-at new-fits len) e in
       record {
         same = l .same;
         hit = λ c o hc ho t.

@@ -19,10 +19,9 @@ pub struct Repaired {
     pub rec: Record,
 }
 
-// Stores the missing contents of group g, which the survey is at, at their homes under the whole list. What the scratch holds afterwards does
-// not count.
-fn mend_group(w: Survey, y: Layout, s: Shape, r: Record, g: u64, image: &mut [u8], lost: &mut [u8])
-    requires { ⌜ InHand y s r g w × (length (now image) ≡ imageLength y) × (length (now lost) ≡ 12288) ⌝ }
+// Stores the missing contents of group g, which the survey is at, at their homes under the whole list.
+fn mend_group(w: Survey, y: Layout, s: Shape, r: Record, g: u64, image: &mut [u8])
+    requires { ⌜ InHand y s r g w × (length (now image) ≡ imageLength y) ⌝ }
     ensures { λ _. ⌜ Mended y r g (now (image .entry)) (now (image .exit)) ⌝ }
 {
     let plan = w.plan;
@@ -33,7 +32,7 @@ fn mend_group(w: Survey, y: Layout, s: Shape, r: Record, g: u64, image: &mut [u8
     let in_hand = w.to;
     let to = survey::tile_to(y, w.tile, in_hand, tile);
     let starts = survey::new_starts(y, s, r, &to, g);
-    groups::repair_group(plan, starts, image, lost);
+    groups::repair_group(plan, starts, image);
 }
 
 // One group after another; how many contents were missing in all.
@@ -44,13 +43,12 @@ fn mend_groups(y: Layout, r: Record, image: &mut [u8]) -> u64
     let s = numbers::shape_of(y);
     let numbers = numbers::numbers_of(y);
     let groups = numbers.groups;
-    let mut lost = [0u8; 12288];
     let mut survey = survey::begin(y, s, 0);
     let mut count: u64 = 0;
     let mut g: u64 = 0;
     while g < groups {
         survey = survey::next(survey, y, s, r, g);
-        mend_group(survey, y, s, r, g, image, &mut lost);
+        mend_group(survey, y, s, r, g, image);
         let plan = survey.plan;
         count += plan.gone as u64;
         g += 1;

@@ -11,8 +11,6 @@ pub fn write(y: Layout, r: Record, image: &mut [u8], offset: u64, bytes: &[u8]) 
     if refusal != 0 {
         return refusal;
     }
-    let mut lost = [0u8; 12288];
-    let mut par = [0u8; 12288];
-    range_write::write_range(y, r, image, offset, bytes, &mut lost, &mut par);
+    range_write::write_range(y, r, image, offset, bytes);
     0
 }

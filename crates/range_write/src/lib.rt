@@ -1,5 +1,5 @@
 // A range of the file written, one group after another, each with its own plan. Inner: the calls are `pool_write::write` and
-// `pool_list::write_list`, whose ranges share one scratch.
+// `pool_list::write_list`.
 use homes::Record;
 use numbers::Layout;
 ghost use mathlib.Core.Path.{_≡_};
@@ -10,17 +10,9 @@ ghost use Rattle.pool.specs.Asked.{Sound};
 ghost use Rattle.pool.specs.Writing.{writtenImage};
 
 // Writes the bytes to the groups that they fall into, which are those from the first byte's on that
-// begin before the end. The scratch serves every group.
-pub fn write_range(
-    y: Layout,
-    r: Record,
-    image: &mut [u8],
-    offset: u64,
-    bytes: &[u8],
-    lost: &mut [u8],
-    par: &mut [u8],
-)
-    requires { ⌜ Sound y r (length (now image)) × (offset + length (now bytes) ≤ capacity y) × (length (now lost) ≡ 12288) × (length (now par) ≡ 12288) ⌝ }
+// begin before the end.
+pub fn write_range(y: Layout, r: Record, image: &mut [u8], offset: u64, bytes: &[u8])
+    requires { ⌜ Sound y r (length (now image)) × (offset + length (now bytes) ≤ capacity y) ⌝ }
     ensures { λ _. ⌜ now (image .exit) ≡ writtenImage y r (now (image .entry)) offset (now (bytes .entry)) ⌝ }
 {
     if bytes.len() == 0 {
@@ -35,15 +27,7 @@ pub fn write_range(
     while from < end {
         survey = survey::next(survey, y, s, r, g);
         let plan = survey.plan;
-        groups::write_group(
-            plan,
-            image,
-            bytes,
-            from as usize,
-            offset as usize,
-            lost,
-            par,
-        );
+        groups::write_group(plan, image, bytes, from as usize, offset as usize);
         g += 1;
         from += span;
     }

@@ -1,4 +1,4 @@
--- Runs of bytes: of a list, of zeros, and of a content.
+-- Runs of bytes: of a list, and of a content.
 use mathlib.Core.Path.{_≡_, ap}
 use mathlib.Core.List.{List}
 use Prim.Native.Nat.{ℕ, _+_, _*_}
@@ -14,9 +14,6 @@ runOf src from o = getD src (from + o) 0
 pub runOf-more : (src : List ℕ) (from i o : ℕ) → runOf src (from + i) o ≡ runOf src from (i + o)
 unfolding runOf
 runOf-more src from i o = ap (λ (x : ℕ). getD src x 0) (add-assoc from i o)
-
-unfoldable pub zeroRun : ℕ → ℕ
-zeroRun o = 0
 
 -- the bytes of content c from unit offset lo on, as they stand or rebuilt
 unfoldable pub heldRun : Plan → List ℕ → ℕ → ℕ → ℕ → ℕ

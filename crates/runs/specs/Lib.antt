@@ -1,3 +1,4 @@
 pub mod Run
 pub mod Held
 pub mod Steps
+pub mod InPlace

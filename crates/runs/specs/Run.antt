@@ -7,8 +7,7 @@ use Prim.Native.Nat.{ℕ, zero, suc, _+_, _-_, _<_, _≤_}
 use native.Mathlib.Nat.{not-suc-le-zero, le-of-suc-le-suc, eq-or-lt-of-le, lt-irrefl, le-refl}
 use native.Mathlib.Numerals.{add-one}
 use native.Mathlib.Omega.{arith}
-use lib.ListN.{length, getD, set, length-set}
-use lib.Seq.{getD-set-same, getD-set-other}
+use lib.ListN.{length, getD}
 use Rattle.lists.specs.Pick.{pick, pick-true, pick-false, clash, below-or-not}
 use Rattle.lists.specs.Part.{within, within-in, within-cases}
 use Rattle.lists.specs.Span.{Span}
@@ -63,32 +62,13 @@ runSet-twice to len f g h l b e =
     (λ o k. runSet-in to len g (runSet to len f l) o k (omega (arith, length-runSet to len f l)) ∙ e o k)
     (λ x k w. runSet-out to len g (runSet to len f l) x (omega (arith, length-runSet to len f l)) w ∙ runSet-out to len f l x k w)
 
--- a loop that fills a run from its front
+-- before a loop that fills a run
 pub runSet-none : (to : ℕ) (f : ℕ → ℕ) (l : List ℕ) → l ≡ runSet to 0 f l
 unfolding runSet
 runSet-none to f l =
     tabulated (length l) _ l 0 refl (λ x h.
     within-cases to 0 x (λ p q. absurd (let z : x < x = omega arith in lt-irrefl x z))
     (λ w. sym (pick-false (within to 0 x) _ _ w)))
-
-pub runSet-turn : (to i : ℕ) (f : ℕ → ℕ) (l₀ l : List ℕ) (v : ℕ) → to + i < length l₀ → l ≡ runSet to i f l₀ → v ≡ f i → set l (to + i) v ≡ runSet to (i + 1) f l₀
-runSet-turn to i f l₀ l v b e ev =
-    runSet-is to (i + 1) f l₀ (set l (to + i) v) (length-set l (to + i) v ∙ len) (omega arith)
-    (λ o h. ⊎-elim
-    (λ (q : o ≡ i). ap (λ (y : ℕ). getD (set l (to + i) v) (to + y) 0) q ∙ getD-set-same l (to + i) v 0 (omega (arith, len)) ∙ ev ∙ ap f (sym q))
-    (λ (q : o < i). getD-set-other l (to + i) (to + o) v 0 (λ (z : to + o ≡ to + i). let y : o < o = omega arith in lt-irrefl o y)
-    ∙ ap (λ (m : List ℕ). getD m (to + o) 0) e ∙ runSet-in to i f l₀ o q (omega arith))
-    (eq-or-lt-of-le (let k : o ≤ i = omega arith in k)))
-    (λ x h w.
-    getD-set-other l (to + i) x v 0 (λ (z : x ≡ to + i). clash (within to (i + 1) x) (within-in to (i + 1) x (omega arith) (omega arith)) w)
-    ∙ ap (λ (m : List ℕ). getD m x 0) e
-    ∙ runSet-out to i f l₀ x h (within-cases to i x (λ p q. clash (within to (i + 1) x) (within-in to (i + 1) x p (omega arith)) w) (λ u. u)))
-  where
-    len : length l ≡ length l₀
-    len = ap length e ∙ length-runSet to i f l₀
-
-pub runSet-end : (to i n : ℕ) (f : ℕ → ℕ) (l₀ l : List ℕ) → l ≡ runSet to i f l₀ → i ≡ n → l ≡ runSet to n f l₀
-runSet-end to i n f l₀ l e h = cc
 
 -- a loop that fills a run piece by piece: m elements after the first i
 pub runSet-more : (to i m n : ℕ) (f g : ℕ → ℕ) (l₀ l l′ : List ℕ) → n ≡ i + m → to + n ≤ length l₀ → ((o : ℕ) → o < m → g o ≡ f (i + o))
@@ -178,7 +158,7 @@ module _ (on : ℕ → Bool) (at : ℕ → ℕ) (len : ℕ) (v : ℕ → ℕ →
   pub paint-end : (i n : ℕ) (l₀ l : List ℕ) → l ≡ paint i l₀ → i ≡ n → l ≡ paint n l₀
   paint-end i n l₀ l e h = cc
 
-one-ext : (t : Bool) (to len : ℕ) (f g : ℕ → ℕ) (l m : List ℕ) → l ≡ m → (t ≡ true → to + len ≤ length m) → (t ≡ true → (o : ℕ) → o < len → f o ≡ g o)
+pub one-ext : (t : Bool) (to len : ℕ) (f g : ℕ → ℕ) (l m : List ℕ) → l ≡ m → (t ≡ true → to + len ≤ length m) → (t ≡ true → (o : ℕ) → o < len → f o ≡ g o)
     → pick t (runSet to len f l) l ≡ pick t (runSet to len g m) m
 one-ext true to len f g l m e b h = ap (runSet to len f) e ∙ runSet-ext to len f g m (b refl) (h refl)
 one-ext false to len f g l m e b h = e
@@ -196,3 +176,22 @@ paint-ext-on on at len v w (suc n) l b h =
 pub paint-ext : (on : ℕ → Bool) (at : ℕ → ℕ) (len : ℕ) (v w : ℕ → ℕ → ℕ) (n : ℕ) (l : List ℕ) → ((i : ℕ) → i < n → at i + len ≤ length l)
     → ((i : ℕ) → i < n → on i ≡ true → (o : ℕ) → o < len → v i o ≡ w i o) → paint on at len v n l ≡ paint on at len w n l
 paint-ext on at len v w n l b h = paint-ext-on on at len v w n l (λ i k t. b i k) h
+
+-- runs laid after those of the first n, told by numbers of their own
+one-after : (t t₂ : Bool) (to to₂ len : ℕ) (f f₂ : ℕ → ℕ) (l l₂ : List ℕ) → t₂ ≡ t → to₂ ≡ to → l₂ ≡ l → (t ≡ true → to + len ≤ length l)
+    → (t ≡ true → (o : ℕ) → o < len → f₂ o ≡ f o) → pick t₂ (runSet to₂ len f₂ l₂) l₂ ≡ pick t (runSet to len f l) l
+one-after true t₂ to to₂ len f f₂ l l₂ et ea el b h =
+    pick-true t₂ _ _ et ∙ ap (λ (x : ℕ). runSet x len f₂ l₂) ea ∙ ap (runSet to len f₂) el ∙ runSet-ext to len f₂ f l (b refl) (h refl)
+one-after false t₂ to to₂ len f f₂ l l₂ et ea el b h = pick-false t₂ _ _ et ∙ el
+
+module _ (on on₂ : ℕ → Bool) (at at₂ : ℕ → ℕ) (len : ℕ) (v v₂ : ℕ → ℕ → ℕ) (n : ℕ) (l : List ℕ) where
+  pub paint-after : (k : ℕ) → ((i : ℕ) → i < k → on₂ i ≡ on (n + i)) → ((i : ℕ) → i < k → at₂ i ≡ at (n + i))
+      → ((i : ℕ) → i < k → on (n + i) ≡ true → at (n + i) + len ≤ length l) → ((i : ℕ) → i < k → on (n + i) ≡ true → (o : ℕ) → o < len → v₂ i o ≡ v (n + i) o)
+      → paint on₂ at₂ len v₂ k (paint on at len v n l) ≡ paint on at len v (n + k) l
+  unfolding paint
+  paint-after zero eo ea b h = ap (λ (m : ℕ). paint on at len v m l) (let z : n ≡ n + 0 = omega arith in z)
+  paint-after (suc k) eo ea b h =
+      one-after (on (n + k)) (on₂ k) (at (n + k)) (at₂ k) len (v (n + k)) (v₂ k) (paint on at len v (n + k) l) _ (eo k (le-refl (suc k))) (ea k (le-refl (suc k)))
+      (paint-after k (λ i m. eo i (omega arith)) (λ i m. ea i (omega arith)) (λ i m. b i (omega arith)) (λ i m. h i (omega arith)))
+      (λ t. subst (λ (m : ℕ). at (n + k) + len ≤ m) (sym (paint-length on at len v (n + k) l)) (b k (le-refl (suc k)) t)) (h k (le-refl (suc k)))
+      ∙ ap (λ (m : ℕ). paint on at len v m l) (let z : suc (n + k) ≡ n + suc k = omega arith in z)

@@ -11,7 +11,6 @@ use Rattle.lists.specs.Pick.{pick-false}
 use Rattle.lists.specs.Span.{Span}
 use Rattle.lists.specs.Tabulate.{fill-step}
 use Rattle.field.specs.Byte.{_⊕_, mul}
-use Rattle.field.specs.Ring.{zero-⊕}
 use Rattle.field.specs.Sum.{sum-cong}
 use Rattle.kernel.specs.Combine.{sumAt}
 use Rattle.parity.specs.Group.{rebuilt}
@@ -19,7 +18,7 @@ use Rattle.plan.specs.declared.Plan.{Plan}
 use Rattle.plan.specs.Plans.{linesOf, atOf, missOf, Right, Fits, column, held}
 use Rattle.plan.specs.Held.{rank-lt, rank-apart, slot-lt, row-holds}
 use Rattle.runs.specs.Run.{runSet, length-runSet, runSet-in, runSet-ext, runSet-twice, runSet-span, paint, paint-hit}
-use Rattle.runs.specs.Held.{runOf, zeroRun, heldRun, rankPlace}
+use Rattle.runs.specs.Held.{runOf, heldRun, rankPlace}
 
 -- a loop that fills the first n of an array of 16: all that a turn shows
 pub fill16 : (f : ℕ → ℕ) (l : List ℕ) (i v n : ℕ) → length l ≡ 16 → n ≤ 16 → i < n → v ≡ f i → ((k : ℕ) → k < i → getD l k 0 ≡ f k)
@@ -30,41 +29,42 @@ fill16 f l i v n e h b ev g = (omega arith, length-set l i v ∙ e, fill-step f 
 pub fits-at : {P : Plan} {size size′ : ℕ} → Fits P size → size′ ≡ size → Fits P size′
 fits-at {P} f e = subst (Fits P) (sym e) f
 
--- ---- sums onto a run
+-- ---- sums over runs
 
--- what is added onto the bytes of a run, told byte by byte
-pub span-run : (to len : ℕ) (g : ℕ → ℕ) (l l′ : List ℕ) → to + len ≤ length l → Span (λ y. getD l y 0 ⊕ g (y - to)) to (to + len) l l′
-    → l′ ≡ runSet to len (λ o. getD l (to + o) 0 ⊕ g o) l
-span-run to len g l l′ b s =
-    runSet-span to len _ _ l l′ b s (λ o h. ap (λ (x : ℕ). getD l (to + o) 0 ⊕ g x) (add-sub-cancel-left to o))
+-- what is put into the bytes of a run, told byte by byte
+pub put-span : (to len : ℕ) (g : ℕ → ℕ) (l l′ : List ℕ) → to + len ≤ length l → Span (λ y. g (y - to)) to (to + len) l l′ → l′ ≡ runSet to len g l
+put-span to len g l l′ b s = runSet-span to len _ _ l l′ b s (λ o h. ap g (add-sub-cancel-left to o))
 
--- g added onto a run that holds f
-pub add-run : (to len : ℕ) (f g : ℕ → ℕ) (l₀ l l′ : List ℕ) → to + len ≤ length l₀ → l ≡ runSet to len f l₀
-    → l′ ≡ runSet to len (λ o. getD l (to + o) 0 ⊕ g o) l → l′ ≡ runSet to len (λ o. f o ⊕ g o) l₀
-add-run to len f g l₀ l l′ b e e′ =
-    e′
+-- what is added onto the bytes of a run that holds f
+pub add-span : (to len : ℕ) (f g : ℕ → ℕ) (l₀ l l′ : List ℕ) → to + len ≤ length l₀ → l ≡ runSet to len f l₀
+    → Span (λ y. getD l y 0 ⊕ g (y - to)) to (to + len) l l′ → l′ ≡ runSet to len (λ o. f o ⊕ g o) l₀
+add-span to len f g l₀ l l′ b e s =
+    runSet-span to len _ _ l l′ (omega (arith, ap length e ∙ length-runSet to len f l₀)) s
+    (λ o h. ap (λ (x : ℕ). getD l (to + o) 0 ⊕ g x) (add-sub-cancel-left to o))
     ∙ ap (runSet to len (λ o. getD l (to + o) 0 ⊕ g o)) e
     ∙ runSet-twice to len f (λ o. getD l (to + o) 0 ⊕ g o) (λ o. f o ⊕ g o) l₀ b
     (λ o h. ap (_⊕ g o) (ap (λ (m : List ℕ). getD m (to + o) 0) e ∙ runSet-in to len f l₀ o h b))
 
 -- ---- rebuilding
 
+-- the row's sum over the slots is the missing content
+pub row-run : (P : Plan) (img : List ℕ) (lo c : ℕ) (starts row : List ℕ) → Right P → c < P .n + P .k → missOf P c ≡ true
+    → ((j : ℕ) → j < P .n → getD starts j 0 ≡ atOf P (getD (P .slots) j 0) + lo) → row ≡ getD (linesOf (P .rows)) (getD (P .rank) c 0) []
+    → (o : ℕ) → sumAt (P .n) row starts img o ≡ heldRun P img lo c o
+unfolding heldRun held column sumAt
+row-run P img lo c starts row r hc t hs hr o =
+    sum-cong (P .n) _ _
+    (λ j k. ap₂ mul (ap (λ (m : List ℕ). getD m j 0) hr)
+    (ap (λ (x : ℕ). getD img x 0) (let q : getD starts j 0 + o ≡ atOf P (getD (P .slots) j 0) + (lo + o) = omega (arith, hs j k) in q)))
+    ∙ row-holds P r (λ c. getD img (atOf P c + (lo + o)) 0) c hc t
+
 module _ (P : Plan) (img : List ℕ) (lo to len : ℕ) (l₀ : List ℕ) (b : to + len ≤ length l₀) where
-  -- the row's sum over the slots is the missing content
-  pub lost-made : (c : ℕ) (l l′ starts row : List ℕ) → Right P → c < P .n + P .k → missOf P c ≡ true
+  -- a missing content is put
+  pub lost-made : (c : ℕ) (l starts row : List ℕ) → Right P → c < P .n + P .k → missOf P c ≡ true
       → ((j : ℕ) → j < P .n → getD starts j 0 ≡ atOf P (getD (P .slots) j 0) + lo) → row ≡ getD (linesOf (P .rows)) (getD (P .rank) c 0) []
-      → l ≡ runSet to len zeroRun l₀ → Span (λ y. getD l y 0 ⊕ sumAt (P .n) row starts img (y - to)) to (to + len) l l′
-      → l′ ≡ runSet to len (heldRun P img lo c) l₀
-  unfolding zeroRun heldRun held column sumAt
-  lost-made c l l′ starts row r hc t hs hr e s =
-      add-run to len zeroRun (sumAt (P .n) row starts img) l₀ l l′ b e (span-run to len _ l l′ (omega (arith, ap length e ∙ length-runSet to len zeroRun l₀)) s)
-      ∙ runSet-ext to len _ _ l₀ b
-      (λ o h.
-      zero-⊕ _
-      ∙ sum-cong (P .n) _ _
-      (λ j k. ap₂ mul (ap (λ (m : List ℕ). getD m j 0) hr)
-      (ap (λ (x : ℕ). getD img x 0) (let q : getD starts j 0 + o ≡ atOf P (getD (P .slots) j 0) + (lo + o) = omega (arith, hs j k) in q)))
-      ∙ row-holds P r (λ c. getD img (atOf P c + (lo + o)) 0) c hc t)
+      → Span (λ y. sumAt (P .n) row starts img (y - to)) to (to + len) l₀ l → l ≡ runSet to len (heldRun P img lo c) l₀
+  lost-made c l starts row r hc t hs hr s =
+      put-span to len (sumAt (P .n) row starts img) l₀ l b s ∙ runSet-ext to len _ _ l₀ b (λ o h. row-run P img lo c starts row r hc t hs hr o)
 
   -- a content that is there is copied
   pub there-made : (c : ℕ) (l : List ℕ) → missOf P c ≡ false → l ≡ runSet to len (runOf img (atOf P c + lo)) l₀ → l ≡ runSet to len (heldRun P img lo c) l₀

@@ -1,31 +1,18 @@
-// Runs of bytes of one group: copied, cleared, and rebuilt where a content is missing.
+// Runs of bytes of one group: copied, and rebuilt where a content is missing.
 ghost use mathlib.Core.Path.{_≡_};
 ghost use mathlib.Core.Bool.{true};
-ghost use Prim.Native.Nat.{ℕ, _+_, _*_, _<_, _≤_};
+ghost use Prim.Native.Nat.{ℕ, _+_, _<_, _≤_};
 ghost use lib.ListN.{length, getD};
-ghost use Rattle.lists.specs.Pick.{pick};
-ghost use Rattle.kernel.specs.Plan.{Filled};
 ghost use Rattle.plan.specs.Plans.{atOf, missOf, Fits};
-ghost use Rattle.runs.specs.Run.{runSet, paint};
-ghost use Rattle.runs.specs.Held.{runOf, zeroRun, heldRun, rankPlace};
+ghost use Rattle.runs.specs.Run.{runSet};
+ghost use Rattle.runs.specs.Held.{runOf, heldRun};
+ghost use Rattle.runs.specs.InPlace.{Clear};
 use plan::Plan;
-
-// Zeros in the `len` bytes of `out` from `to` on.
-pub fn clear_run(out: &mut [u8], to: usize, len: usize)
-    requires { ⌜ to + len ≤ length (now out) ⌝ }
-    ensures { λ _. ⌜ now (out .exit) ≡ runSet to len zeroRun (now (out .entry)) ⌝ }
-{
-    let mut i: usize = 0;
-    while i < len {
-        out[to + i] = 0;
-        i += 1;
-    }
-}
 
 // m bytes of `src` from `from` on.
 fn taken(src: &[u8], from: usize, m: usize) -> [u8; 128]
     requires { ⌜ (m ≤ 128) × (from + m ≤ length (now src)) ⌝ }
-    ensures { λ r. ⌜ Filled (runOf (now (src .entry)) from) m r ⌝ }
+    ensures { λ r. ⌜ (length r ≡ 128) × ((i : ℕ) → i < m → getD r i 0 ≡ runOf (now (src .entry)) from i) ⌝ }
 {
     let mut b = [0u8; 128];
     let mut i: usize = 0;
@@ -77,7 +64,15 @@ fn slot_starts(p: Plan, size: usize, lo: usize) -> [usize; 16]
 }
 
 // The bytes of the missing content c from unit offset lo on, rebuilt, in those of `out` from `to` on.
-fn rebuild_run(p: Plan, image: &[u8], lo: usize, c: usize, out: &mut [u8], to: usize, len: usize)
+pub fn rebuild_run(
+    p: Plan,
+    image: &[u8],
+    lo: usize,
+    c: usize,
+    out: &mut [u8],
+    to: usize,
+    len: usize,
+)
     requires { ⌜ Fits p (length (now image)) × (lo + len ≤ p .u) × (c < p .n + p .k) × (missOf p c ≡ true) × (to + len ≤ length (now out)) ⌝ }
     ensures { λ _. ⌜ now (out .exit) ≡ runSet to len (heldRun p (now (image .entry)) lo c) (now (out .entry)) ⌝ }
 {
@@ -85,33 +80,7 @@ fn rebuild_run(p: Plan, image: &[u8], lo: usize, c: usize, out: &mut [u8], to: u
     let rows = p.rows;
     let rank = p.rank;
     let row = plan::line(rows, rank[c]);
-    clear_run(out, to, len);
-    kernel::combine(out, to, image, &starts, &row, p.n, len);
-}
-
-// Content c of those that are to be rebuilt, at its place in the scratch.
-fn rebuild_one(p: Plan, image: &[u8], lo: usize, len: usize, c: usize, lost: &mut [u8])
-    requires { ⌜ Fits p (length (now image)) × (lo + len ≤ p .u) × (c < p .n + p .k) × (length (now lost) ≡ 12288) ⌝ }
-    ensures { λ _. ⌜ now (lost .exit) ≡ pick (missOf p c) (runSet (rankPlace p c) len (heldRun p (now (image .entry)) lo c) (now (lost .entry))) (now (lost .entry)) ⌝ }
-{
-    let missing = p.missing;
-    if missing[c] {
-        let rank = p.rank;
-        let r = rank[c];
-        rebuild_run(p, image, lo, c, lost, r * 4096, len);
-    }
-}
-
-// The missing ones of the first m contents, rebuilt, 4096 bytes apart in the scratch.
-pub fn rebuild_runs(p: Plan, image: &[u8], lo: usize, len: usize, m: usize, lost: &mut [u8])
-    requires { ⌜ Fits p (length (now image)) × (lo + len ≤ p .u) × (m ≤ p .n + p .k) × (length (now lost) ≡ 12288) ⌝ }
-    ensures { λ _. ⌜ now (lost .exit) ≡ paint (missOf p) (rankPlace p) len (heldRun p (now (image .entry)) lo) m (now (lost .entry)) ⌝ }
-{
-    let mut c: usize = 0;
-    while c < m {
-        rebuild_one(p, image, lo, len, c, lost);
-        c += 1;
-    }
+    kernel::combine_put(out, to, image, &starts, &row, p.n, len);
 }
 
 // The bytes of content c from unit offset lo on, as they stand or rebuilt, in those of `out` from `to` on.
@@ -127,4 +96,16 @@ pub fn read_run(p: Plan, image: &[u8], c: usize, lo: usize, out: &mut [u8], to: 
     let at = p.at;
     let from = at[c] + lo;
     put_run(out, to, image, from, len);
+}
+
+// The unit of the missing content c, rebuilt within the image, at `to`: no unit that the row reads meets it, so that nothing is kept beside the image.
+pub fn mend_run(p: Plan, image: &mut [u8], c: usize, to: usize)
+    requires { ⌜ Fits p (length (now image)) × Clear p to (length (now image)) × (c < p .n + p .k) × (missOf p c ≡ true) ⌝ }
+    ensures { λ _. ⌜ now (image .exit) ≡ runSet to (p .u) (heldRun p (now (image .entry)) 0 c) (now (image .entry)) ⌝ }
+{
+    let starts = slot_starts(p, image.len(), 0);
+    let lines = p.rows;
+    let rank = p.rank;
+    let row = plan::line(lines, rank[c]);
+    kernel::combine_in(image, to, &starts, &row, p.n, p.u);
 }

@@ -1,4 +1,4 @@
 pub mod Writing
-pub mod Origin
+pub mod Sources
 pub mod Steps
 pub mod Made

@@ -1,27 +1,20 @@
-// Writing to a run of unit offsets of one group. All that is read is read before the first store, into lent scratch: so what is stored hangs on
-// the image as it was.
+// Writing to a run of unit offsets of one group. The named data are stored first, each at its home; parity is then put at its own home at once,
+// from the bytes to write where those name every data unit, else from the data as they stand by then. What is missing is kept in a scratch.
 ghost use mathlib.Core.Path.{_≡_};
-ghost use mathlib.Core.Bool.{true, false};
+ghost use mathlib.Core.Logic.{_⊎_};
+ghost use mathlib.Core.Bool.{true, false, not};
 ghost use Prim.Native.Nat.{ℕ, _+_, _-_, _*_, _<_, _≤_};
 ghost use lib.ListN.{length, getD};
-ghost use lib.Dec.{eqb};
 ghost use Rattle.lists.specs.Pick.{pick};
 ghost use Rattle.lists.specs.Part.{within as withinRun};
-ghost use Rattle.field.specs.Byte.{_⊕_};
-ghost use Rattle.plan.specs.Plans.{atOf, Fits};
+ghost use Rattle.parity.specs.Matrix.{flag};
+ghost use Rattle.kernel.specs.InPlace.{Apart as ApartIn};
+ghost use Rattle.plan.specs.Plans.{atOf, missOf, Right, Fits, Apart};
 ghost use Rattle.runs.specs.Run.{runSet, paint};
+ghost use Rattle.runs.specs.Held.{runOf, rankPlace};
 ghost use Rattle.updates.specs.Writing.{storesIn, runWritten, RunFits};
-ghost use Rattle.updates.specs.Origin.{kindOf, byteStart, lostStart, Starts, OriginFits, OriginOf, kindSum, parityRun, parityRuns, storedRun};
-use plan::Lines;
+ghost use Rattle.updates.specs.Sources.{byteStart, lostStart, Starts, standing, parityAt, wholeParity, aroundSum, parityOver, keptRun, Begins, Keeps};
 use plan::Plan;
-
-// Where the data of a run come from. kind 0: the image; 1: the bytes to write; 2: the rebuilt runs.
-pub struct Origin {
-    pub kind: [u8; 16],
-    pub image: [usize; 16],
-    pub bytes: [usize; 16],
-    pub lost: [usize; 16],
-}
 
 fn within(a: usize, k: usize, x: usize) -> bool
     ensures { λ r. ⌜ r ≡ withinRun a k x ⌝ }
@@ -32,38 +25,12 @@ fn within(a: usize, k: usize, x: usize) -> bool
     false
 }
 
-// ---- where the data come from
+// ---- where the data lie
 
-fn kind_of(named: bool, missing: bool) -> u8
-    ensures { λ r. ⌜ r ≡ pick named 1 (pick missing 2 0) ⌝ }
-{
-    if named {
-        return 1;
-    }
-    if missing {
-        return 2;
-    }
-    0
-}
-
-fn kinds(p: Plan, from: usize, units: usize) -> [u8; 16]
-    requires { ⌜ p .n ≤ 16 ⌝ }
-    ensures { λ r. ⌜ ((j : ℕ) → j < p .n → getD r j 0 ≡ kindOf p from units j) ⌝ }
-{
-    let n = p.n;
-    let missing = p.missing;
-    let mut r = [0u8; 16];
-    let mut j: usize = 0;
-    while j < n {
-        r[j] = kind_of(within(from, units, j), missing[j]);
-        j += 1;
-    }
-    r
-}
-
+// Where the n data units begin in the image, from unit offset lo on.
 fn image_starts(p: Plan, size: usize, lo: usize) -> [usize; 16]
     requires { ⌜ Fits p size × (lo ≤ p .u) ⌝ }
-    ensures { λ r. ⌜ ((j : ℕ) → j < p .n → getD r j 0 ≡ atOf p j + lo) ⌝ }
+    ensures { λ r. ⌜ Begins p lo r ⌝ }
 {
     let n = p.n;
     let at = p.at;
@@ -108,6 +75,7 @@ fn byte_starts(
     r
 }
 
+// Where a missing data unit is kept in the scratch.
 fn lost_start(missing: bool, rank: usize) -> usize
     requires { ⌜ (missing ≡ true → rank < 3) ⌝ }
     ensures { λ r. ⌜ r ≡ pick missing (rank * 4096) 0 ⌝ }
@@ -118,8 +86,8 @@ fn lost_start(missing: bool, rank: usize) -> usize
     0
 }
 
-fn lost_starts(p: Plan, size: usize) -> [usize; 16]
-    requires { ⌜ Fits p size ⌝ }
+fn lost_starts(p: Plan) -> [usize; 16]
+    requires { ⌜ Right p ⌝ }
     ensures { λ r. ⌜ ((j : ℕ) → j < p .n → getD r j 0 ≡ lostStart p j) ⌝ }
 {
     let n = p.n;
@@ -134,45 +102,105 @@ fn lost_starts(p: Plan, size: usize) -> [usize; 16]
     r
 }
 
-fn origin_of(
+// ---- the data
+
+// Whether data unit c is stored: it is present, and named.
+fn stores(p: Plan, from: usize, units: usize, c: usize) -> bool
+    requires { ⌜ (c < p .n) × (p .n ≤ 16) ⌝ }
+    ensures { λ r. ⌜ r ≡ storesIn p (withinRun from units) c ⌝ }
+{
+    let missing = p.missing;
+    if missing[c] {
+        return false;
+    }
+    within(from, units, c)
+}
+
+// The bytes of data unit c at its home, where they are named and it is present.
+fn store_unit(
     p: Plan,
-    size: usize,
-    s: usize,
-    a: usize,
+    image: &mut [u8],
+    bytes: &[u8],
+    starts: [usize; 16],
     from: usize,
     units: usize,
     lo: usize,
-) -> Origin
-    requires { ⌜ Fits p size × (s ≤ 17592186044416) × (lo ≤ p .u) × ((j : ℕ) → withinRun from units j ≡ true → a ≤ s + (p .u * j + lo)) ⌝ }
-    ensures { λ r. ⌜ OriginOf p r s a from units lo ⌝ }
+    len: usize,
+    c: usize,
+)
+    requires { ⌜ Fits p (length (now image)) × (lo + len ≤ p .u) × (c < p .n) × Starts (length (now bytes)) starts (p .n) len ⌝ }
+    ensures { λ _. ⌜ now (image .exit) ≡ pick (storesIn p (withinRun from units) c)
+        (runSet (atOf p c + lo) len (runOf (now (bytes .entry)) (getD starts c 0)) (now (image .entry))) (now (image .entry)) ⌝ }
 {
-    let kind = kinds(p, from, units);
-    let image = image_starts(p, size, lo);
-    let bytes = byte_starts(p.n, p.u, s, a, from, units, lo);
-    let lost = lost_starts(p, size);
-    Origin {
-        kind: kind,
-        image: image,
-        bytes: bytes,
-        lost: lost,
+    if !stores(p, from, units, c) {
+        return;
+    }
+    let at = p.at;
+    let to = at[c] + lo;
+    let start = starts[c];
+    runs::put_run(image, to, bytes, start, len);
+}
+
+fn store_data(
+    p: Plan,
+    image: &mut [u8],
+    bytes: &[u8],
+    starts: [usize; 16],
+    from: usize,
+    units: usize,
+    lo: usize,
+    len: usize,
+)
+    requires { ⌜ Fits p (length (now image)) × (lo + len ≤ p .u) × Starts (length (now bytes)) starts (p .n) len ⌝ }
+    ensures { λ _. ⌜ now (image .exit) ≡ paint (storesIn p (withinRun from units)) (λ c. atOf p c + lo) len (λ c. runOf (now (bytes .entry)) (getD starts c 0)) (p .n) (now (image .entry)) ⌝ }
+{
+    let n = p.n;
+    let mut c: usize = 0;
+    while c < n {
+        store_unit(p, image, bytes, starts, from, units, lo, len, c);
+        c += 1;
     }
 }
 
-// ---- parity
+// ---- parity of a run that names every data unit
 
-fn has_kind(kind: [u8; 16], q: u8, n: usize) -> bool
-    requires { ⌜ n ≤ 16 ⌝ }
-    ensures { λ r. ⌜ (r ≡ false → (j : ℕ) → j < n → eqb (getD kind j 0) q ≡ false) ⌝ }
+// Parity i at its home, where it is present, from the bytes to write.
+fn put_whole(
+    p: Plan,
+    image: &mut [u8],
+    bytes: &[u8],
+    starts: [usize; 16],
+    lo: usize,
+    len: usize,
+    i: usize,
+)
+    requires { ⌜ Fits p (length (now image)) × (lo + len ≤ p .u) × (i < p .k) × Starts (length (now bytes)) starts (p .n) len ⌝ }
+    ensures { λ _. ⌜ now (image .exit) ≡ pick (standing p i) (runSet (parityAt p lo i) len (wholeParity p (now (bytes .entry)) starts i) (now (image .entry))) (now (image .entry)) ⌝ }
 {
-    let mut j: usize = 0;
-    while j < n {
-        if kind[j] == q {
-            return true;
-        }
-        j += 1;
+    let c = p.n + i;
+    let missing = p.missing;
+    if missing[c] {
+        return;
     }
-    false
+    let at = p.at;
+    let codes = p.codes;
+    let coefs = plan::line(codes, i);
+    kernel::combine_put(image, at[c] + lo, bytes, &starts, &coefs, p.n, len);
 }
+
+fn put_wholes(p: Plan, image: &mut [u8], bytes: &[u8], starts: [usize; 16], lo: usize, len: usize)
+    requires { ⌜ Fits p (length (now image)) × (lo + len ≤ p .u) × Starts (length (now bytes)) starts (p .n) len ⌝ }
+    ensures { λ _. ⌜ now (image .exit) ≡ paint (standing p) (parityAt p lo) len (wholeParity p (now (bytes .entry)) starts) (p .k) (now (image .entry)) ⌝ }
+{
+    let k = p.k;
+    let mut i: usize = 0;
+    while i < k {
+        put_whole(p, image, bytes, starts, lo, len, i);
+        i += 1;
+    }
+}
+
+// ---- parity of another run, from the data in the image and the missing ones in the scratch
 
 fn keep(on: bool, x: u8) -> u8
     ensures { λ r. ⌜ r ≡ pick on x 0 ⌝ }
@@ -180,167 +208,217 @@ fn keep(on: bool, x: u8) -> u8
     if on { x } else { 0 }
 }
 
-// The coefficients of the data of one kind, 0 at the others.
-fn masked(row: [u8; 16], kind: [u8; 16], q: u8, n: usize) -> [u8; 16]
+// A row of coefficients in two: those of the data that are present, and those of the missing ones.
+pub struct Halves {
+    pub present: [u8; 16],
+    pub missing: [u8; 16],
+}
+
+fn halved(row: [u8; 16], gone: [bool; 19], n: usize) -> Halves
     requires { ⌜ n ≤ 16 ⌝ }
-    ensures { λ r. ⌜ ((j : ℕ) → j < n → getD r j 0 ≡ pick (eqb (getD kind j 0) q) (getD row j 0) 0) ⌝ }
+    ensures { λ r. ⌜ ((j : ℕ) → j < n → getD (r .present) j 0 ≡ pick (not (flag gone j)) (getD row j 0) 0) × ((j : ℕ) → j < n → getD (r .missing) j 0 ≡ pick (flag gone j) (getD row j 0) 0) ⌝ }
 {
-    let mut r = [0u8; 16];
+    let mut present = [0u8; 16];
+    let mut missing = [0u8; 16];
     let mut j: usize = 0;
     while j < n {
-        r[j] = keep(kind[j] == q, row[j]);
+        present[j] = keep(!gone[j], row[j]);
+        missing[j] = keep(gone[j], row[j]);
         j += 1;
     }
-    r
+    Halves { present, missing }
 }
 
-// Adds what the data of one kind, which lie in `src`, bring to a parity; nothing where there are none.
-fn add_kind(
-    row: [u8; 16],
-    kind: [u8; 16],
-    q: u8,
-    n: usize,
-    src: &[u8],
-    starts: [usize; 16],
-    out: &mut [u8],
-    to: usize,
-    len: usize,
-)
-    requires { ⌜ Starts (length (now src)) starts n len × (to + len ≤ length (now out)) ⌝ }
-    ensures { λ _. ⌜ now (out .exit) ≡ runSet to len (λ o. getD (now (out .entry)) (to + o) 0 ⊕ kindSum row kind q n (now (src .entry)) starts o) (now (out .entry)) ⌝ }
-{
-    if has_kind(kind, q, n) {
-        let coefs = masked(row, kind, q, n);
-        kernel::combine(out, to, src, &starts, &coefs, n, len);
-    }
-}
-
-// One parity of a run, in the `len` bytes of `out` from `to` on.
-fn parity_run(
-    s: Origin,
-    row: [u8; 16],
-    n: usize,
-    image: &[u8],
-    bytes: &[u8],
-    lost: &[u8],
-    out: &mut [u8],
-    to: usize,
-    len: usize,
-)
-    requires { ⌜ OriginFits s n len (length (now image)) (length (now bytes)) (length (now lost)) × (to + len ≤ length (now out)) ⌝ }
-    ensures { λ _. ⌜ now (out .exit) ≡ runSet to len (parityRun s row n (now (image .entry)) (now (bytes .entry)) (now (lost .entry))) (now (out .entry)) ⌝ }
-{
-    let kind = s.kind;
-    let in_image = s.image;
-    let in_bytes = s.bytes;
-    let in_lost = s.lost;
-    runs::clear_run(out, to, len);
-    add_kind(row, kind, 0, n, image, in_image, out, to, len);
-    add_kind(row, kind, 1, n, bytes, in_bytes, out, to, len);
-    add_kind(row, kind, 2, n, lost, in_lost, out, to, len);
-}
-
-// All k parities of a run, 4096 bytes apart.
-fn parities(
-    s: Origin,
-    codes: Lines,
-    n: usize,
-    k: usize,
-    image: &[u8],
-    bytes: &[u8],
-    lost: &[u8],
-    par: &mut [u8],
-    len: usize,
-)
-    requires { ⌜ OriginFits s n len (length (now image)) (length (now bytes)) (length (now lost)) × (k ≤ 3) × (len ≤ 4096) × (length (now par) ≡ 12288) ⌝ }
-    ensures { λ _. ⌜ now (par .exit) ≡ paint (λ i. true) (λ i. i * 4096) len (parityRuns s codes n (now (image .entry)) (now (bytes .entry)) (now (lost .entry))) k (now (par .entry)) ⌝ }
-{
-    let mut i: usize = 0;
-    while i < k {
-        let row = plan::line(codes, i);
-        parity_run(s, row, n, image, bytes, lost, par, i * 4096, len);
-        i += 1;
-    }
-}
-
-// ---- storing
-
-// Whether content c is stored: it is present, and a named data unit or a parity unit.
-fn stores(p: Plan, from: usize, units: usize, c: usize) -> bool
-    requires { ⌜ c < 19 ⌝ }
-    ensures { λ r. ⌜ r ≡ storesIn p (withinRun from units) c ⌝ }
-{
-    let missing = p.missing;
-    if missing[c] {
-        return false;
-    }
-    if c < p.n {
-        return within(from, units, c);
-    }
-    true
-}
-
-fn store_run(
+// A sum over the data where some are missing: over those in the image, and onto it over those in the scratch.
+fn put_around(
     p: Plan,
-    from: usize,
-    units: usize,
-    starts: [usize; 16],
-    bytes: &[u8],
-    par: &[u8],
     image: &mut [u8],
+    lost: &[u8],
+    starts: [usize; 16],
+    row: [u8; 16],
+    to: usize,
+    len: usize,
+)
+    requires { ⌜ Right p × (len ≤ 4096) × (to + len ≤ length (now image)) × ((j : ℕ) → j < p .n → ApartIn (getD starts j 0) to len (length (now image))) × (length (now lost) ≡ 12288) ⌝ }
+    ensures { λ _. ⌜ now (image .exit) ≡ runSet to len (aroundSum p (now (image .entry)) (now (lost .entry)) starts row) (now (image .entry)) ⌝ }
+{
+    let gone = p.missing;
+    let parts = halved(row, gone, p.n);
+    let present = parts.present;
+    let missing = parts.missing;
+    let kept = lost_starts(p);
+    kernel::combine_in(image, to, &starts, &present, p.n, len);
+    kernel::combine(image, to, lost, &kept, &missing, p.n, len);
+}
+
+// Parity i at its home, where it is present.
+fn put_parity(
+    p: Plan,
+    image: &mut [u8],
+    lost: &[u8],
+    starts: [usize; 16],
     lo: usize,
     len: usize,
-    c: usize,
+    i: usize,
 )
-    requires { ⌜ Fits p (length (now image)) × (lo + len ≤ p .u) × (c < p .n + p .k) × Starts (length (now bytes)) starts (p .n) len × (length (now par) ≡ 12288) ⌝ }
-    ensures { λ _. ⌜ now (image .exit) ≡ pick (storesIn p (withinRun from units) c) (runSet (atOf p c + lo) len (storedRun (p .n) starts (now (bytes .entry)) (now (par .entry)) c) (now (image .entry))) (now (image .entry)) ⌝ }
+    requires { ⌜ Fits p (length (now image)) × Apart p × (lo + len ≤ p .u) × (i < p .k) × Begins p lo starts × Keeps p (length (now lost)) ⌝ }
+    ensures { λ _. ⌜ now (image .exit) ≡ pick (standing p i) (runSet (parityAt p lo i) len (parityOver p (now (image .entry)) (now (lost .entry)) lo i) (now (image .entry))) (now (image .entry)) ⌝ }
 {
-    if !stores(p, from, units, c) {
+    let c = p.n + i;
+    let missing = p.missing;
+    if missing[c] {
         return;
     }
     let at = p.at;
     let to = at[c] + lo;
-    if c < p.n {
-        let start = starts[c];
-        runs::put_run(image, to, bytes, start, len);
+    let codes = p.codes;
+    let row = plan::line(codes, i);
+    if p.gone == 0 {
+        kernel::combine_in(image, to, &starts, &row, p.n, len);
         return;
     }
-    let start = (c - p.n) * 4096;
-    runs::put_run(image, to, par, start, len);
+    put_around(p, image, lost, starts, row, to, len);
 }
 
-fn store_runs(
+fn put_parities(p: Plan, image: &mut [u8], lost: &[u8], lo: usize, len: usize)
+    requires { ⌜ Fits p (length (now image)) × Apart p × (lo + len ≤ p .u) × Keeps p (length (now lost)) ⌝ }
+    ensures { λ _. ⌜ now (image .exit) ≡ paint (standing p) (parityAt p lo) len (parityOver p (now (image .entry)) (now (lost .entry)) lo) (p .k) (now (image .entry)) ⌝ }
+{
+    let starts = image_starts(p, image.len(), lo);
+    let k = p.k;
+    let mut i: usize = 0;
+    while i < k {
+        put_parity(p, image, lost, starts, lo, len, i);
+        i += 1;
+    }
+}
+
+// ---- the missing data, kept in a scratch before anything is stored
+
+// Data unit c where it is missing: the bytes to write, or what it held, rebuilt.
+fn keep_unit(
     p: Plan,
+    image: &[u8],
+    bytes: &[u8],
+    starts: [usize; 16],
     from: usize,
     units: usize,
-    starts: [usize; 16],
-    bytes: &[u8],
-    par: &[u8],
-    image: &mut [u8],
     lo: usize,
     len: usize,
+    lost: &mut [u8],
+    c: usize,
 )
-    requires { ⌜ Fits p (length (now image)) × (lo + len ≤ p .u) × Starts (length (now bytes)) starts (p .n) len × (length (now par) ≡ 12288) ⌝ }
-    ensures { λ _. ⌜ now (image .exit) ≡ paint (storesIn p (withinRun from units)) (λ c. atOf p c + lo) len (storedRun (p .n) starts (now (bytes .entry)) (now (par .entry))) (p .n + p .k) (now (image .entry)) ⌝ }
+    requires { ⌜ Fits p (length (now image)) × (lo + len ≤ p .u) × (c < p .n) × Starts (length (now bytes)) starts (p .n) len × (length (now lost) ≡ 12288) ⌝ }
+    ensures { λ _. ⌜ now (lost .exit) ≡ pick (missOf p c)
+        (runSet (rankPlace p c) len (keptRun p (now (image .entry)) (now (bytes .entry)) starts from units lo c) (now (lost .entry))) (now (lost .entry)) ⌝ }
 {
-    let m = p.n + p.k;
+    let missing = p.missing;
+    if missing[c] {
+        let rank = p.rank;
+        let to = rank[c] * 4096;
+        if within(from, units, c) {
+            let start = starts[c];
+            runs::put_run(lost, to, bytes, start, len);
+            return;
+        }
+        runs::rebuild_run(p, image, lo, c, lost, to, len);
+    }
+}
+
+fn keep_lost(
+    p: Plan,
+    image: &[u8],
+    bytes: &[u8],
+    starts: [usize; 16],
+    from: usize,
+    units: usize,
+    lo: usize,
+    len: usize,
+    lost: &mut [u8],
+)
+    requires { ⌜ Fits p (length (now image)) × (lo + len ≤ p .u) × Starts (length (now bytes)) starts (p .n) len × (length (now lost) ≡ 12288) ⌝ }
+    ensures { λ _. ⌜ now (lost .exit) ≡ paint (missOf p) (rankPlace p) len (keptRun p (now (image .entry)) (now (bytes .entry)) starts from units lo) (p .n) (now (lost .entry)) ⌝ }
+{
+    let n = p.n;
     let mut c: usize = 0;
-    while c < m {
-        store_run(p, from, units, starts, bytes, par, image, lo, len, c);
+    while c < n {
+        keep_unit(p, image, bytes, starts, from, units, lo, len, lost, c);
         c += 1;
     }
 }
 
-// How many data units to look through for missing ones that are not named: none where all are named.
-fn unnamed(n: usize, from: usize, units: usize) -> usize
-    ensures { λ r. ⌜ (r ≤ n) × ((j : ℕ) → j < n → withinRun from units j ≡ false → r ≡ n) ⌝ }
+// ---- a run
+
+// Where every data unit is named, whatever is missing.
+fn write_whole(
+    p: Plan,
+    image: &mut [u8],
+    bytes: &[u8],
+    s: usize,
+    a: usize,
+    from: usize,
+    units: usize,
+    lo: usize,
+    len: usize,
+)
+    requires { ⌜ Fits p (length (now image)) × Apart p × RunFits p s a from units lo len (length (now bytes)) × ((j : ℕ) → j < p .n → withinRun from units j ≡ true) ⌝ }
+    ensures { λ _. ⌜ now (image .exit) ≡ runWritten p (now (image .entry)) (now (bytes .entry)) s a from units lo len ⌝ }
+{
+    let starts = byte_starts(p.n, p.u, s, a, from, units, lo);
+    store_data(p, image, bytes, starts, from, units, lo, len);
+    put_wholes(p, image, bytes, starts, lo, len);
+}
+
+// Where nothing is missing.
+fn write_healthy(
+    p: Plan,
+    image: &mut [u8],
+    bytes: &[u8],
+    s: usize,
+    a: usize,
+    from: usize,
+    units: usize,
+    lo: usize,
+    len: usize,
+)
+    requires { ⌜ Fits p (length (now image)) × Apart p × RunFits p s a from units lo len (length (now bytes)) × (p .gone ≡ 0) ⌝ }
+    ensures { λ _. ⌜ now (image .exit) ≡ runWritten p (now (image .entry)) (now (bytes .entry)) s a from units lo len ⌝ }
+{
+    let starts = byte_starts(p.n, p.u, s, a, from, units, lo);
+    let nothing = [0u8; 1];
+    store_data(p, image, bytes, starts, from, units, lo, len);
+    put_parities(p, image, &nothing, lo, len);
+}
+
+// Where something is missing. The scratch is made here, so that no other write clears it.
+fn write_around(
+    p: Plan,
+    image: &mut [u8],
+    bytes: &[u8],
+    s: usize,
+    a: usize,
+    from: usize,
+    units: usize,
+    lo: usize,
+    len: usize,
+)
+    requires { ⌜ Fits p (length (now image)) × Apart p × RunFits p s a from units lo len (length (now bytes)) ⌝ }
+    ensures { λ _. ⌜ now (image .exit) ≡ runWritten p (now (image .entry)) (now (bytes .entry)) s a from units lo len ⌝ }
+{
+    let starts = byte_starts(p.n, p.u, s, a, from, units, lo);
+    let mut lost = [0u8; 12288];
+    keep_lost(p, image, bytes, starts, from, units, lo, len, &mut lost);
+    store_data(p, image, bytes, starts, from, units, lo, len);
+    put_parities(p, image, &lost, lo, len);
+}
+
+fn all_named(n: usize, from: usize, units: usize) -> bool
+    ensures { λ r. ⌜ (r ≡ true → (j : ℕ) → j < n → withinRun from units j ≡ true) ⌝ }
 {
     if from == 0 {
-        if n <= units {
-            return 0;
-        }
+        return n <= units;
     }
-    n
+    false
 }
 
 // Writes to the unit offsets lo .. lo + len, where the data units from .. from + units are named. The group's data begin at file byte s, the
@@ -355,16 +433,17 @@ pub fn write_run(
     units: usize,
     lo: usize,
     len: usize,
-    lost: &mut [u8],
-    par: &mut [u8],
 )
-    requires { ⌜ Fits p (length (now image)) × RunFits p s a from units lo len (length (now bytes)) × (length (now lost) ≡ 12288) × (length (now par) ≡ 12288) ⌝ }
+    requires { ⌜ Fits p (length (now image)) × Apart p × RunFits p s a from units lo len (length (now bytes)) ⌝ }
     ensures { λ _. ⌜ now (image .exit) ≡ runWritten p (now (image .entry)) (now (bytes .entry)) s a from units lo len ⌝ }
 {
-    let codes = p.codes;
-    runs::rebuild_runs(p, image, lo, len, unnamed(p.n, from, units), lost);
-    let src = origin_of(p, image.len(), s, a, from, units, lo);
-    let starts = src.bytes;
-    parities(src, codes, p.n, p.k, image, bytes, lost, par, len);
-    store_runs(p, from, units, starts, bytes, par, image, lo, len);
+    if all_named(p.n, from, units) {
+        write_whole(p, image, bytes, s, a, from, units, lo, len);
+        return;
+    }
+    if p.gone == 0 {
+        write_healthy(p, image, bytes, s, a, from, units, lo, len);
+        return;
+    }
+    write_around(p, image, bytes, s, a, from, units, lo, len);
 }

@@ -12,7 +12,7 @@ use Rattle.kernel.proofs.add_plane.Tie as tie
 
 abbrev Inv-loop : tie.InvT-loop
 Inv-loop acc₀ src list base count o m q₀ acc q =
-    (q ≤ count) × (length acc ≡ 128) × Span (λ i. getD acc₀ i 0 ⊕ picked src list base q (o + i)) 0 m acc₀ acc
+    (q ≤ count) × (length acc ≡ 192) × Span (λ i. getD acc₀ i 0 ⊕ picked src list base q (o + i)) 0 m acc₀ acc
 
 abbrev μ-loop : tie.MeasureT-loop
 μ-loop acc₀ src list base count o m q₀ acc q = count - q

@@ -2,7 +2,6 @@
 -- `planned-sum`, once, at the end.
 use mathlib.Core.Path.{refl, ap, _∙_}
 use Prim.Native.Nat.{ℕ, _+_, _-_, _≤_}
-use native.Mathlib.Nat.{le-refl}
 use native.Mathlib.Omega.{arith}
 use lib.ListN.{length, getD}
 use Rattle.field.specs.Byte.{_⊕_}
@@ -41,7 +40,7 @@ block-requires c κs =
     let a = c .before .before .before .before .before .before .before .before .before .before .args in
     let p = c .before .before .before .before .plan in
     let t = c .before .before .before .before .before .before .before .top-of in (
-      le-refl 128,
+      omega arith,
       t .ensures .0,
       λ k h. reach-to (reach (a .n) (a .coefs .now) (a .starts .now) (a .src .now) (p .last .0) (p .result) (t .result) (p .ensures) (a .len) (length (a .src .now)) (c .before .before .before .before .before .before .before .before .before .before .pre .0) (t .ensures .0) (c .before .before .before .before .before .before .before .before .before .before .pre .2) k h) (omega arith),
     )
@@ -50,7 +49,7 @@ add-add-block : tie.Need-add-add-block Inv-loop μ-loop
 add-add-block c = let w = c .before .before .before .before .before .before .loop .inv .1 .len in omega arith
 
 add-block-requires : tie.Need-add-block-requires Inv-loop μ-loop
-add-block-requires c κs = let w = c .before .before .before .before .before .before .loop .inv .1 .len in (le-refl 128, omega arith)
+add-block-requires c κs = let w = c .before .before .before .before .before .before .loop .inv .1 .len in (omega arith, omega arith)
 
 add-o : tie.Need-add-o Inv-loop μ-loop
 add-o c = omega arith

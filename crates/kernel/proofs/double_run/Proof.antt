@@ -10,7 +10,7 @@ use Rattle.kernel.proofs.double_run.Statement.{statement}
 use Rattle.kernel.proofs.double_run.Tie as tie
 
 abbrev Inv-loop : tie.InvT-loop
-Inv-loop acc₀ m i₀ acc i = (i ≤ m) × (length acc ≡ 128) × Span (λ x. double (getD acc₀ x 0)) 0 i acc₀ acc
+Inv-loop acc₀ m i₀ acc i = (i ≤ m) × (length acc ≡ 192) × Span (λ x. double (getD acc₀ x 0)) 0 i acc₀ acc
 
 abbrev μ-loop : tie.MeasureT-loop
 μ-loop acc₀ m i₀ acc i = m - i

@@ -16,8 +16,8 @@ abbrev μ-loop : tie.MeasureT-loop
 loop-holds : tie.Need-loop-holds Inv-loop μ-loop
 loop-holds c = (omega arith, span-none _ (c .args .o) (c .args .out .now) (omega arith))
 
-element-copy-out-out : tie.Need-element-copy-out-out Inv-loop μ-loop
-element-copy-out-out c = omega arith
+shared-slice-read-out : tie.Need-shared-slice-read-out Inv-loop μ-loop
+shared-slice-read-out c = omega arith
 
 add-out : tie.Need-add-out Inv-loop μ-loop
 add-out c = omega arith
@@ -58,7 +58,7 @@ put-block-spec =
     Inv-loop
     μ-loop
     loop-holds
-    element-copy-out-out
+    shared-slice-read-out
     add-out
     slice-write-out
     add-i

@@ -11,7 +11,7 @@ use Rattle.kernel.proofs.xor_run.Statement.{statement}
 use Rattle.kernel.proofs.xor_run.Tie as tie
 
 abbrev Inv-loop : tie.InvT-loop
-Inv-loop acc₀ src s m i₀ acc i = (i ≤ m) × (length acc ≡ 128) × Span (λ x. getD acc₀ x 0 ⊕ getD src (s + x) 0) 0 i acc₀ acc
+Inv-loop acc₀ src s m i₀ acc i = (i ≤ m) × (length acc ≡ 192) × Span (λ x. getD acc₀ x 0 ⊕ getD src (s + x) 0) 0 i acc₀ acc
 
 abbrev μ-loop : tie.MeasureT-loop
 μ-loop acc₀ src s m i₀ acc i = m - i

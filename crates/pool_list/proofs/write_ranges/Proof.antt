@@ -1,25 +1,25 @@
--- `pool_list::write_ranges` meets its contract: before range i those before it are written, one after the other, and their bytes are passed.
-use mathlib.Core.Path.{_≡_, refl, sym, ap, _∙_, subst⁻¹}
+-- `pool_list::write_ranges`. Before range i those before it are written, one after the other, and their bytes are passed.
+use mathlib.Core.Path.{_≡_, refl, ap, _∙_, subst⁻¹}
 use Prim.Native.Nat.{_-_, _≤_}
 use native.Mathlib.Omega.{arith}
 use lib.ListN.{length}
-use borrow.Author.Needs.{needs}
 use Rattle.lists.specs.Count.{sum}
 use Rattle.pool.specs.Asked.{Sound}
 use Rattle.pool_list.specs.Ranges.{rangeSize, afterRanges}
 use Rattle.pool_list.specs.Steps.{after-length, part-ends, next-from, range-fits, range-next}
+use borrow.Author.Needs.{needs}
 use Rattle.pool_list.proofs.write_ranges.Statement.{statement}
 use Rattle.pool_list.proofs.write_ranges.Tie as tie
 
 abbrev Inv-loop : tie.InvT-loop
-Inv-loop y r image₀ ranges bytes lost₀ par₀ at₀ i₀ image lost par at i = (image ≡ afterRanges y r image₀ ranges bytes i) × (at ≡ sum (rangeSize ranges) i) × (i ≤ length ranges) × (length lost ≡ 12288) × (length par ≡ 12288)
+Inv-loop y r image₀ ranges bytes at₀ i₀ image at i = (image ≡ afterRanges y r image₀ ranges bytes i) × (at ≡ sum (rangeSize ranges) i) × (i ≤ length ranges)
 
 abbrev μ-loop : tie.MeasureT-loop
-μ-loop y r image₀ ranges bytes lost₀ par₀ at₀ i₀ image lost par at i = length ranges - i
+μ-loop y r image₀ ranges bytes at₀ i₀ image at i = length ranges - i
 
 loop-holds : tie.Need-loop-holds Inv-loop μ-loop
 unfolding afterRanges sum
-loop-holds c = (refl, refl, omega arith, refl, refl)
+loop-holds c = (refl, refl, omega arith)
 
 mul-offset : tie.Need-mul-offset Inv-loop μ-loop
 mul-offset c = search needs
@@ -51,42 +51,17 @@ part-write-range-start c = search needs
 part-write-range-end : tie.Need-part-write-range-end Inv-loop μ-loop
 part-write-range-end c = let s = c .before .before .before .before .before .before .before in part-ends _ _ (s .args .image .now) _ (s .args .bytes .now) (s .pre) _ (c .before .before .before .loop-test .taken) _ (c .before .before .before .before .loop .inv .1)
 
-slice-aggregate-write-range : tie.Need-slice-aggregate-write-range Inv-loop μ-loop
-slice-aggregate-write-range c = sym (c .before .before .before .before .before .before .loop .inv .3)
-
-slice-aggregate-write-range-2 : tie.Need-slice-aggregate-write-range-2 Inv-loop μ-loop
-slice-aggregate-write-range-2 c = sym (c .before .before .before .before .before .before .before .loop .inv .4)
-
 write-range-requires : tie.Need-write-range-requires Inv-loop μ-loop
-write-range-requires c κs =
-    let s = c .before .before .before .before .before .before .before .before .before .before in
-    let w = c .before .before .before .before .before .before .before .loop .inv in
-    let i = c .before .before .before .before .before .before .before .loop .i in (
-      subst⁻¹ (Sound (s .args .y) (s .args .r)) (ap length (w .0) ∙ after-length _ _ _ _ _ i) (s .pre .sound),
-      range-fits _ _ (s .args .image .now) _ (s .args .bytes .now) (s .pre) i (c .before .before .before .before .before .before .loop-test .taken) _ (w .1),
-      w .3,
-      w .4,
-    )
+write-range-requires c κs = let s = c .before .before .before .before .before .before .before .before in let w = c .before .before .before .before .before .loop .inv in let i = c .before .before .before .before .before .loop .i in (subst⁻¹ (Sound (s .args .y) (s .args .r)) (ap length (w .0) ∙ after-length _ _ _ _ _ i) (s .pre .sound), range-fits _ _ (s .args .image .now) _ (s .args .bytes .now) (s .pre) i (c .before .before .before .before .loop-test .taken) _ (w .1))
 
 add-i : tie.Need-add-i Inv-loop μ-loop
-add-i c = let s = c .before .before .before .before .before .before .before .before .before .before .before .before .before .before .before in omega (arith, s .pre .few, c .before .before .before .before .before .before .before .before .before .before .before .loop-test .taken)
+add-i c = let s = c .before .before .before .before .before .before .before .before .before .before .before in omega (arith, s .pre .few, c .before .before .before .before .before .before .before .loop-test .taken)
 
 loop-less : tie.Need-loop-less Inv-loop μ-loop
 loop-less c = search needs
 
 loop-again : tie.Need-loop-again Inv-loop μ-loop
-loop-again c =
-    let s = c .before .before .before .before .before .before .before .before .before .before .before .before .before .before .before in
-    let w = c .before .before .before .before .before .before .before .before .before .before .before .before .loop .inv in
-    let i = c .before .before .before .before .before .before .before .before .before .before .before .before .loop .i in
-    let more = c .before .before .before .before .before .before .before .before .before .before .before .loop-test .taken in
-    let kept = c .before .before .before .before .write-range .kept in (
-      range-next _ _ (s .args .image .now) _ (s .args .bytes .now) (s .pre) i more _ (w .1) _ _ (w .0) (c .before .before .before .before .write-range .ensures),
-      next-from _ _ (s .args .image .now) _ (s .args .bytes .now) (s .pre) i more _ (w .1),
-      omega (arith, more),
-      kept .1 .1 .1 .1 .1 .0 ∙ w .3,
-      kept .1 .1 .1 .1 .1 .1 .0 ∙ w .4,
-    )
+loop-again c = let s = c .before .before .before .before .before .before .before .before .before .before .before in let w = c .before .before .before .before .before .before .before .before .loop .inv in let i = c .before .before .before .before .before .before .before .before .loop .i in let more = c .before .before .before .before .before .before .before .loop-test .taken in (range-next _ _ (s .args .image .now) _ (s .args .bytes .now) (s .pre) i more _ (w .1) _ _ (w .0) (c .before .before .write-range .ensures), next-from _ _ (s .args .image .now) _ (s .args .bytes .now) (s .pre) i more _ (w .1), omega (arith, more))
 
 same-length : tie.Need-same-length Inv-loop μ-loop
 same-length c = ap length (c .before .loop .inv .0) ∙ after-length _ _ _ _ _ (c .before .loop .i)
@@ -111,8 +86,6 @@ write-ranges-spec =
     sub-write-range
     part-write-range-start
     part-write-range-end
-    slice-aggregate-write-range
-    slice-aggregate-write-range-2
     write-range-requires
     add-i
     loop-less

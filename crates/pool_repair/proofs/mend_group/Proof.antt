@@ -6,9 +6,7 @@ use Rattle.pool_repair.proofs.mend_group.Statement.{statement}
 use Rattle.pool_repair.proofs.mend_group.Tie as tie
 
 returns : tie.Need-returns
-returns c =
-    let p = c .before .before .before .before .before .pre .0 in
-    nothing-to-mend _ (p .valid) (c .before .before .before .before .before .args .r) (p .good) _ _ (p .surveyed) (c .if1 .taken) _
+returns c = let p = c .before .before .before .before .pre .0 in nothing-to-mend _ (p .valid) (c .before .before .before .before .args .r) (p .good) _ _ (p .surveyed) (c .if1 .taken) _
 
 div-tile : tie.Need-div-tile
 div-tile c = search needs
@@ -21,20 +19,16 @@ new-starts-requires c κs = search needs
 
 repair-group-requires : tie.Need-repair-group-requires
 repair-group-requires c κs =
-    let p = c .before .before .before .before .before .before .before .before .before .before .before .before .pre .0 in
-    let f = group-fits _ (p .valid) (c .before .before .before .before .before .before .before .before .before .before .before .before .args .r) (p .good) _ (p .group) _ (p .surveyed) (c .before .before .new-starts .result) (c .before .before .new-starts .ensures) _ (c .before .before .before .before .before .before .before .before .before .before .before .before .pre .1) in
-    (f .0, f .1, c .before .before .before .before .before .before .before .before .before .before .before .before .pre .2)
+    let p = c .before .before .before .before .before .before .before .before .before .before .pre .0 in
+    group-fits _ (p .valid) (c .before .before .before .before .before .before .before .before .before .before .args .r) (p .good) _ (p .group) _ (p .surveyed) (c .before .new-starts .result) (c .before .new-starts .ensures) _ (c .before .before .before .before .before .before .before .before .before .before .pre .1)
 
 same-length : tie.Need-same-length
 same-length c = search needs
 
-same-length-2 : tie.Need-same-length-2
-same-length-2 c = search needs
-
 returns-2 : tie.Need-returns-2
 returns-2 c =
-    let p = c .before .before .before .before .before .before .before .before .before .before .before .before .before .before .before .before .before .pre .0 in
-    mended-group _ (p .valid) (c .before .before .before .before .before .before .before .before .before .before .before .before .before .before .before .before .before .args .r) (p .good) _ (p .group) _ (p .surveyed) (c .before .before .before .before .before .before .before .new-starts .result) (c .before .before .before .before .before .before .before .new-starts .ensures) _ _ (c .before .before .before .before .before .before .before .before .before .before .before .before .before .before .before .before .before .pre .1) (c .before .before .before .before .repair-group .ensures)
+    let p = c .before .before .before .before .before .before .before .before .before .before .before .before .before .pre .0 in
+    mended-group _ (p .valid) (c .before .before .before .before .before .before .before .before .before .before .before .before .before .args .r) (p .good) _ (p .group) _ (p .surveyed) (c .before .before .before .before .new-starts .result) (c .before .before .before .before .new-starts .ensures) _ _ (c .before .before .before .before .before .before .before .before .before .before .before .before .before .pre .1) (c .before .before .repair-group .ensures)
 
 pub mend-group-spec : {M : Type 1} → statement M
 mend-group-spec =
@@ -46,5 +40,4 @@ mend-group-spec =
     new-starts-requires
     repair-group-requires
     same-length
-    same-length-2
     returns-2)

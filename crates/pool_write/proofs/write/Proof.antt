@@ -1,5 +1,5 @@
 -- `pool_write::write` meets its contract: the tests answer, and what they grant is written as one range.
-use mathlib.Core.Path.{_≡_, refl, sym, _∙_}
+use mathlib.Core.Path.{_≡_, sym, _∙_}
 use Prim.Native.Nat.{_+_, _≤_}
 use native.Mathlib.Omega.{arith}
 use borrow.Author.Needs.{needs}
@@ -20,20 +20,14 @@ range-refusal-requires c κs = search needs
 returns : tie.Need-returns
 returns c = writes-refused _ _ _ _ _ _ (c .before .range-refusal .ensures) (λ z. omega (arith, c .if1 .taken, z))
 
-slice-aggregate-write-range : tie.Need-slice-aggregate-write-range
-slice-aggregate-write-range c = refl
-
-slice-aggregate-write-range-2 : tie.Need-slice-aggregate-write-range-2
-slice-aggregate-write-range-2 c = refl
-
 write-range-requires : tie.Need-write-range-requires
-write-range-requires c κs = (asked (c .before .before .before) .0, omega (arith, asked (c .before .before .before) .1), refl, refl)
+write-range-requires c κs = (asked (c .before) .0, omega (arith, asked (c .before) .1))
 
 same-length : tie.Need-same-length
-same-length c = c .before .before .before .before .write-range .kept .1 .1 .0
+same-length c = c .before .before .write-range .kept .1 .1 .0
 
 returns-2 : tie.Need-returns-2
-returns-2 c = writes-granted _ _ _ _ _ _ _ (c .before .before .before .before .before .before .before .before .before .range-refusal .ensures) (omega (arith, c .before .before .before .before .before .before .before .before .if1 .left)) (c .before .before .before .before .write-range .ensures)
+returns-2 c = writes-granted _ _ _ _ _ _ _ (c .before .before .before .before .before .range-refusal .ensures) (omega (arith, c .before .before .before .before .if1 .left)) (c .before .before .write-range .ensures)
 
 pub write-spec : {M : Type 1} → statement M
 write-spec =
@@ -41,8 +35,6 @@ write-spec =
     (tie.spec
     range-refusal-requires
     returns
-    slice-aggregate-write-range
-    slice-aggregate-write-range-2
     write-range-requires
     same-length
     returns-2)

@@ -1,5 +1,4 @@
--- `runs::rebuild_run`. The row's sum over the slots, added onto zeros (`lost-made`).
-use native.Mathlib.Omega.{arith}
+-- `runs::rebuild_run`. The row's sum over the slots (`lost-made`).
 use borrow.Author.Needs.{needs}
 use Rattle.plan.specs.Held.{rank-lt}
 use Rattle.runs.specs.Steps.{lost-made, slots-fit}
@@ -18,17 +17,14 @@ array-read-line c = search needs
 line-requires : tie.Need-line-requires
 line-requires c κs = rank-lt _ (c .before .before .before .before .before .pre .0 .right) _ (c .before .before .before .before .before .pre .2) (c .before .before .before .before .before .pre .3)
 
-clear-run-requires : tie.Need-clear-run-requires
-clear-run-requires c κs = search needs
-
-combine-requires : tie.Need-combine-requires
-combine-requires c κs = (c .before .before .before .before .before .before .before .before .before .before .before .before .before .pre .0 .right .solvable .data-max, omega (arith, c .before .before .before .before .before .before .before .before .before .before .before .before .before .pre .4, c .before .before .before .before .before .clear-run .kept .0), slots-fit _ _ _ _ (c .before .before .before .before .before .before .before .before .before .before .slot-starts .result) (c .before .before .before .before .before .before .before .before .before .before .before .before .before .pre .0) (c .before .before .before .before .before .before .before .before .before .before .before .before .before .pre .1) (c .before .before .before .before .before .before .before .before .before .before .slot-starts .ensures))
+combine-put-requires : tie.Need-combine-put-requires
+combine-put-requires c κs = (c .before .before .before .before .before .before .before .before .before .pre .0 .right .solvable .data-max, c .before .before .before .before .before .before .before .before .before .pre .4, slots-fit _ _ _ _ (c .before .before .before .before .before .before .slot-starts .result) (c .before .before .before .before .before .before .before .before .before .pre .0) (c .before .before .before .before .before .before .before .before .before .pre .1) (c .before .before .before .before .before .before .slot-starts .ensures))
 
 same-length : tie.Need-same-length
 same-length c = search needs
 
 returns : tie.Need-returns
-returns c = lost-made _ _ _ _ _ _ (c .before .before .before .before .before .before .before .before .before .before .before .before .before .before .before .before .pre .4) _ _ _ _ _ (c .before .before .before .before .before .before .before .before .before .before .before .before .before .before .before .before .pre .0 .right) (c .before .before .before .before .before .before .before .before .before .before .before .before .before .before .before .before .pre .2) (c .before .before .before .before .before .before .before .before .before .before .before .before .before .before .before .before .pre .3) (c .before .before .before .before .before .before .before .before .before .before .before .before .before .slot-starts .ensures) (c .before .before .before .before .before .before .before .before .before .before .line .ensures) (c .before .before .before .before .before .before .before .before .clear-run .ensures) (c .before .before .combine .ensures)
+returns c = lost-made _ _ _ _ _ _ (c .before .before .before .before .before .before .before .before .before .before .before .before .pre .4) _ _ _ _ (c .before .before .before .before .before .before .before .before .before .before .before .before .pre .0 .right) (c .before .before .before .before .before .before .before .before .before .before .before .before .pre .2) (c .before .before .before .before .before .before .before .before .before .before .before .before .pre .3) (c .before .before .before .before .before .before .before .before .before .slot-starts .ensures) (c .before .before .before .before .before .before .line .ensures) (c .before .before .combine-put .ensures)
 
 pub rebuild-run-spec : {M : Type 1} → statement M
 rebuild-run-spec =
@@ -38,7 +34,6 @@ rebuild-run-spec =
     mul-line
     array-read-line
     line-requires
-    clear-run-requires
-    combine-requires
+    combine-put-requires
     same-length
     returns)

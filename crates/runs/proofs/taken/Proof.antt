@@ -41,7 +41,7 @@ loop-again c =
 returns : tie.Need-returns Inv-loop μ-loop
 returns c =
     let l = c .before .loop in
-    record { len = l .inv .1; at = λ k h. l .inv .2 k (omega arith) }
+    (l .inv .1, λ k h. l .inv .2 k (omega arith))
 
 pub taken-spec : {M : Type 1} → statement M
 taken-spec =

@@ -4,7 +4,7 @@ use Prim.Native.Nat.{_≤_}
 use native.Mathlib.Omega.{arith}
 use borrow.Author.Needs.{needs}
 use Rattle.lists.specs.Pick.{pick-true, pick-false}
-use Rattle.updates.specs.Origin.{byteStart}
+use Rattle.updates.specs.Sources.{byteStart}
 use Rattle.updates.specs.Steps.{prod-le}
 use Rattle.updates.proofs.byte_start.Statement.{statement}
 use Rattle.updates.proofs.byte_start.Tie as tie

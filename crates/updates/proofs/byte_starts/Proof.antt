@@ -5,7 +5,7 @@ use native.Mathlib.Omega.{arith}
 use lib.ListN.{length, getD}
 use borrow.Author.Count.{below-none}
 use Rattle.runs.specs.Steps.{fill16}
-use Rattle.updates.specs.Origin.{byteStart}
+use Rattle.updates.specs.Sources.{byteStart}
 use Rattle.updates.proofs.byte_starts.Statement.{statement}
 use Rattle.updates.proofs.byte_starts.Tie as tie
 

@@ -42,7 +42,7 @@ loop-again : tie.Need-loop-again Inv-loop μ-loop
 loop-again c = fill16 _ (c .before .loop .r) _ _ _ (c .before .loop .inv .1) (c .before .before .before .pre .0 .right .solvable .data-max) (c .loop-test .taken) (refl) (c .before .loop .inv .2)
 
 returns : tie.Need-returns Inv-loop μ-loop
-returns c = λ k b. c .before .loop .inv .2 k (omega arith)
+returns c = record { at = λ k b. c .before .loop .inv .2 k (omega arith) }
 
 pub image-starts-spec : {M : Type 1} → statement M
 image-starts-spec =
