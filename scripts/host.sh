@@ -1,10 +1,20 @@
 # shellcheck shell=sh disable=SC2034
-# Sourced by every command that links the archive. Sets `code`, the processor whose code is linked and run (a word for
-# scripts/archive), CC and runner, and for cargo where needed the target, its linker and its runner.
+# Sourced by every command that links the library. Sets `code`, the processor whose code is linked and run (a word for
+# scripts/archive), CC and runner, and for cargo where needed the target, its linker and its runner. Defines archive_in.
 #
 # On x86-64 and on Arm machines: the machine's own code, cc, no runner. SPLICEBELL_EMULATE=1 on an Arm machine: the
 # x86-64 code that is shipped, by a cross compiler, a Rust standard library for x86-64 and the emulator qemu-x86_64
 # (docs/ABI.md says how to get them).
+
+# archive_in FOLDER: the archive there, libsplicebell.a, or else libabi.a, which `rt staticlib abi` makes.
+archive_in() {
+    for archive in "$1/libsplicebell.a" "$1/libabi.a"; do
+        [ ! -f "$archive" ] || { echo "$archive"; return; }
+    done
+    echo "there is no libsplicebell.a in $1" >&2
+    return 1
+}
+
 if [ "$(uname -m)" = x86_64 ] || [ "${SPLICEBELL_EMULATE:-}" != 1 ]; then
     code=$(uname -m)
     CC=${CC:-cc}
@@ -13,6 +23,8 @@ else
     code=x86_64
     CC=${CC:-x86_64-linux-gnu-gcc}
     runner=qemu-x86_64
+    # all that the emulator can, so x86-64-v3; without fast string copies, which it does, and counts, a byte at a time
+    export QEMU_CPU="${QEMU_CPU:-max,-erms}"
     for needed in "$CC" qemu-x86_64; do
         command -v "$needed" >/dev/null || { echo "$needed is not there: docs/ABI.md" >&2; exit 2; }
     done
