@@ -1,27 +1,50 @@
-//! Builds the archive with the repository's `scripts/archive`, for the processor that cargo builds for, and tells
-//! cargo to link it. `SPLICEBELL_ARCHIVE_DIR` may name a folder that holds a `libabi.a` made before; then nothing is
-//! built.
+//! Finds the library and tells cargo to link it. The first of these that holds:
+//!
+//! 1. `SPLICEBELL_ARCHIVE_DIR` names a folder with `libsplicebell.a`, or with `libabi.a`, made before.
+//! 2. `SPLICEBELL_INSTALLED=1`, or the crate does not stand in its repository: the installed library, through
+//!    `splicebell.pc`.
+//! 3. In its repository: the library that `scripts/archive` makes there, for the processor that cargo builds for. An
+//!    installed one, which may be older, is taken only where the kit is missing too, and a warning says so.
 use std::path::{Path, PathBuf};
 use std::process::Command;
 use std::time::SystemTime;
 
 const ARCHIVE_DIR: &str = "SPLICEBELL_ARCHIVE_DIR";
-const ARCHIVE: &str = "libabi.a";
+const INSTALLED: &str = "SPLICEBELL_INSTALLED";
+const SEARCHED: &str = "PKG_CONFIG_PATH";
+
+/// The names that an archive may have, without `lib` and `.a`.
+const NAMES: [&str; 2] = ["splicebell", "abi"];
 
 fn main() {
     println!("cargo:rerun-if-changed=build.rs");
-    println!("cargo:rerun-if-env-changed={ARCHIVE_DIR}");
-    let folder = match std::env::var_os(ARCHIVE_DIR) {
-        Some(folder) => PathBuf::from(folder),
-        None => built_archive(&repository_root()),
-    };
-    let archive = folder.join(ARCHIVE);
-    if !archive.is_file() {
-        stop(&format!("there is no {}", archive.display()));
+    for variable in [ARCHIVE_DIR, INSTALLED, SEARCHED] {
+        println!("cargo:rerun-if-env-changed={variable}");
     }
-    println!("cargo:rerun-if-changed={}", archive.display());
+    let root = repository_root();
+    let in_repository = root.join("scripts/archive").is_file();
+    let folder = if let Some(folder) = std::env::var_os(ARCHIVE_DIR) {
+        PathBuf::from(folder)
+    } else if !in_repository || std::env::var_os(INSTALLED).is_some_and(|word| word == "1") {
+        installed().unwrap_or_else(|| {
+            stop(&format!(
+                "no library is installed: {SEARCHED} may name the folder of its splicebell.pc"
+            ))
+        })
+    } else {
+        built_archive(&root)
+    };
+    link(&folder);
+}
+
+fn link(folder: &Path) {
+    let archive = |name: &str| folder.join(format!("lib{name}.a"));
+    let Some(name) = NAMES.into_iter().find(|name| archive(name).is_file()) else {
+        stop(&format!("there is no {}", archive(NAMES[0]).display()))
+    };
+    println!("cargo:rerun-if-changed={}", archive(name).display());
     println!("cargo:rustc-link-search=native={}", folder.display());
-    println!("cargo:rustc-link-lib=static=abi");
+    println!("cargo:rustc-link-lib=static={name}");
 }
 
 fn repository_root() -> PathBuf {
@@ -30,19 +53,55 @@ fn repository_root() -> PathBuf {
     root.canonicalize().unwrap_or(root)
 }
 
+/// The folder of the installed library, as pkg-config says it; where there is no such command, as the file does.
+fn installed() -> Option<PathBuf> {
+    match Command::new("pkg-config").args(["--variable=libdir", "splicebell"]).output() {
+        Ok(run) if run.status.success() => {
+            Some(String::from_utf8(run.stdout).expect("a path in UTF-8").trim().into())
+        }
+        Ok(_) => None,
+        Err(_) => {
+            let named = std::env::var_os(SEARCHED).unwrap_or_default();
+            let usual = ["/usr/local/lib/pkgconfig", "/usr/lib/pkgconfig"].map(PathBuf::from);
+            std::env::split_paths(&named)
+                .chain(usual)
+                .find_map(|f| libdir(&f.join("splicebell.pc")))
+        }
+    }
+}
+
+fn libdir(file: &Path) -> Option<PathBuf> {
+    let text = std::fs::read_to_string(file).ok()?;
+    let value =
+        |name: &str| text.lines().find_map(|line| line.strip_prefix(name)?.strip_prefix('='));
+    Some(value("libdir")?.replace("${prefix}", value("prefix")?).into())
+}
+
 /// The folder of the archive. To make it takes long also where nothing has changed, so it is not made then.
 fn built_archive(root: &Path) -> PathBuf {
     let code = std::env::var("CARGO_CFG_TARGET_ARCH").expect("cargo names the processor");
-    let sources = [root.join("crates"), root.join("crates.txt"), root.join("scripts")];
+    let sources = ["crates", "crates.txt", "scripts", "include"].map(|source| root.join(source));
     for source in &sources {
         println!("cargo:rerun-if-changed={}", source.display());
     }
-    let folder = root.join(if code == "x86_64" { "target/staticlib" } else { "target/arm" });
-    let built = changed(&folder.join(ARCHIVE));
-    if built.is_none() || built <= sources.iter().filter_map(|source| newest(source)).max() {
-        make_archive(root, &code);
+    let folder = root.join("target/library").join(&code);
+    let built = changed(&folder.join("libsplicebell.a"));
+    if built.is_some() && built > sources.iter().filter_map(|source| newest(source)).max() {
+        return folder;
     }
-    folder
+    match (Command::new("rt").arg("version").output(), installed()) {
+        (Err(_), Some(other)) => {
+            println!(
+                "cargo:warning=splicebell: the Rattle kit is not here: the library in {} is linked",
+                other.display()
+            );
+            other
+        }
+        _ => {
+            make_archive(root, &code);
+            folder
+        }
+    }
 }
 
 /// When the newest file of a folder, or a file itself, was changed.
@@ -60,11 +119,11 @@ fn changed(path: &Path) -> Option<SystemTime> {
 }
 
 fn make_archive(root: &Path, code: &str) {
-    match Command::new("scripts/archive").arg(code).current_dir(root).output() {
+    match Command::new("scripts/archive").args(["library", code]).current_dir(root).output() {
         Err(why) => stop(&format!("scripts/archive cannot be run: {why}")),
         Ok(run) if !run.status.success() => stop(&format!(
-            "the archive cannot be made. It needs the command `rt` of the Rattle kit; or let {ARCHIVE_DIR} name a \
-             folder that holds {ARCHIVE}.\n{}",
+            "the library cannot be made. It needs the command `rt` of the Rattle kit; or install the library \
+             (docs/ABI.md), or let {ARCHIVE_DIR} name a folder that holds it.\n{}",
             String::from_utf8_lossy(&run.stderr)
         )),
         Ok(_) => {}
