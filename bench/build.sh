@@ -1,17 +1,19 @@
 # shellcheck shell=sh disable=SC2034
-# Sourced by bench/run and bench/instructions, at the repository's root. Builds the archive, and the twin and the driver
+# Sourced by bench/run and bench/instructions, at the repository's root. Builds the library, and the twin and the driver
 # into target/bench, with every peer that can be linked here. Sets `driver`.
 #
-# SPLICEBELL_ARCHIVE_DIR=FOLDER   takes the archive there instead of building it.
-# SPLICEBELL_BEFORE=FOLDER        an earlier archive: its calls are timed in turns with ours, as `before`.
+# SPLICEBELL_ARCHIVE_DIR=FOLDER   takes the library there, or the archive, instead of building it.
+# SPLICEBELL_PROCESSOR=LEVEL      on x86-64: the level whose code is timed (docs/ABI.md). Products have the lowest alone.
+# SPLICEBELL_BEFORE=FOLDER        an earlier one: its calls are timed in turns with ours, as `before`.
 # ZFEC=FOLDER                     where zfec's fec.c and fec.h lie; by default where Debian's python3-zfec puts them.
 . scripts/host.sh
 
 built=target/bench
-archive=$(scripts/archive "$code")/libabi.a
+archive=$(archive_in "$(scripts/archive library "$code")")
 products=$(scripts/archive "$code" bench_products)/libbench_products.a
 ZFEC=${ZFEC:-/usr/lib/python3/dist-packages/zfec}
 flags="-O2 -std=gnu11 -Wall -Wextra -Iinclude"
+case $archive in *libsplicebell.a) flags="$flags -DWITH_LEVELS" ;; esac
 plain_sources="timing floors coders products codes pools pool_times maps catalogue texts lists growth works main"
 
 mkdir -p "$built"
@@ -51,11 +53,12 @@ fi
 before=
 if [ -n "${SPLICEBELL_BEFORE:-}" ]; then
     before=$built/libbefore.a
-    "$($CC -print-prog-name=nm)" --defined-only "$SPLICEBELL_BEFORE/libabi.a" |
+    earlier=$(archive_in "$SPLICEBELL_BEFORE")
+    "$($CC -print-prog-name=nm)" --defined-only "$earlier" |
         sed -n 's/^[0-9a-f]* T splicebell_\(.*\)/splicebell_\1 before_\1/p' >"$built/before.names"
-    "$($CC -print-prog-name=objcopy)" --redefine-syms="$built/before.names" "$SPLICEBELL_BEFORE/libabi.a" "$before"
+    "$($CC -print-prog-name=objcopy)" --redefine-syms="$built/before.names" "$earlier" "$before"
     peer_flags="$peer_flags -DWITH_BEFORE"
-    echo "before: $(wc -l <"$built/before.names") calls of an earlier archive"
+    echo "before: $(wc -l <"$built/before.names") functions of an earlier archive"
 fi
 
 sources=

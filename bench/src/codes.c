@@ -43,7 +43,10 @@ static void judge(enum operation op, const struct group *g, const char *peer, do
     int n = g->y.n, k = g->y.k;
     if (op == ENCODE && k > 1 && by_16) {
         snprintf(what, sizeof what, "encode %d+%d / %s", n, k, peer);
-        floor_at_least(what, ratio, 0.9);
+        floor_at_least(what, ratio, 1.0);
+    } else if (op == ENCODE && k > 1 && own) {
+        snprintf(what, sizeof what, "encode %d+%d / %s", n, k, peer);
+        floor_at_least(what, ratio, 0.85);
     } else if (op == ENCODE && k == 1 && own) {
         snprintf(what, sizeof what, "encode %d+%d / %s", n, k, peer);
         floor_at_least(what, ratio, 1.5);
@@ -53,6 +56,9 @@ static void judge(enum operation op, const struct group *g, const char *peer, do
     } else if (op == REBUILD_ALL && k > 1 && by_16) {
         snprintf(what, sizeof what, "rebuild %d+%d, %d lost / %s", n, k, k, peer);
         floor_at_least(what, ratio, 0.6);
+    } else if (op == REBUILD_ALL && k > 1 && own) {
+        snprintf(what, sizeof what, "rebuild %d+%d, %d lost / %s", n, k, k, peer);
+        floor_at_least(what, ratio, 0.7);
     }
 }
 

@@ -1,4 +1,5 @@
 #include "bench.h"
+#include "splicebell_processor.h"
 
 #include <stdio.h>
 #include <stdlib.h>
@@ -13,11 +14,21 @@ static const struct {
 };
 enum { PARTS = sizeof parts / sizeof *parts };
 
+/* What `rt staticlib abi` makes has code for one processor, and no call that says which. */
+static int print_processor(void)
+{
+#ifdef WITH_LEVELS
+    return puts(splicebell_processor()) < 0;
+#else
+    return puts("the archive's one processor") < 0;
+#endif
+}
+
 static int usage(void)
 {
     fprintf(stderr, "bench [--quick] [--emulated] [--large-pages] "
                     "[products|codes|pools|maps|catalogue|texts|lists|growth]...\n"
-                    "bench --list\nbench --work NAME REPEATS\n");
+                    "bench --list\nbench --work NAME REPEATS\nbench --processor\n");
     return 2;
 }
 
@@ -26,6 +37,8 @@ int main(int argc, char **argv)
     bool chosen[PARTS] = {false}, any = false;
     if (argc == 2 && strcmp(argv[1], "--list") == 0)
         return list_works();
+    if (argc == 2 && strcmp(argv[1], "--processor") == 0)
+        return print_processor();
     if (argc == 4 && strcmp(argv[1], "--work") == 0)
         return do_work(argv[2], atol(argv[3]));
     for (int a = 1; a < argc; a++) {

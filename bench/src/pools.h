@@ -16,9 +16,9 @@ extern const struct answerer our_calls, twin_calls;
 
 /* All of them, ours first. */
 #ifdef WITH_BEFORE
-enum { ANSWERERS = 3 };
+enum { TWIN = 1, ANSWERERS = 3 };
 #else
-enum { ANSWERERS = 2 };
+enum { TWIN = 1, ANSWERERS = 2 };
 #endif
 extern const struct answerer *const answerers[ANSWERERS];
 
