@@ -15,6 +15,10 @@ archive_in() {
     return 1
 }
 
+# The emulator's processor, also for bench/instructions on an x86-64 machine: all that it can, so x86-64-v3; without fast
+# string copies, which it does, and counts, a byte at a time.
+export QEMU_CPU="${QEMU_CPU:-max,-erms}"
+
 if [ "$(uname -m)" = x86_64 ] || [ "${SPLICEBELL_EMULATE:-}" != 1 ]; then
     code=$(uname -m)
     CC=${CC:-cc}
@@ -23,8 +27,6 @@ else
     code=x86_64
     CC=${CC:-x86_64-linux-gnu-gcc}
     runner=qemu-x86_64
-    # all that the emulator can, so x86-64-v3; without fast string copies, which it does, and counts, a byte at a time
-    export QEMU_CPU="${QEMU_CPU:-max,-erms}"
     for needed in "$CC" qemu-x86_64; do
         command -v "$needed" >/dev/null || { echo "$needed is not there: docs/ABI.md" >&2; exit 2; }
     done
