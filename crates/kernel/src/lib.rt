@@ -331,7 +331,8 @@ fn put_rest_of(
     }
 }
 
-// Puts into the `len` bytes of `out` from `to` on the sum of coefs[j] times the run of `src` that starts at starts[j], over j < n.
+// Puts into the `len` bytes of `out` from `to` on the sum of coefs[j] times the run of `src` that starts at starts[j], over j < n. A block has 192
+// bytes, what the registers of the oldest processor hold beside what a doubling needs, as long as 128 are left after it; then 128.
 pub fn combine_put(
     out: &mut [u8],
     to: usize,
@@ -398,7 +399,8 @@ fn block_from(at: usize, end: usize) -> usize
     end - (at + end) % 64
 }
 
-// Puts into the `len` bytes from `at` on the sum of coefs[j] times the run that starts at starts[j], over j < n. The runs lie apart from those bytes.
+// Puts into the `len` bytes from `at` on the sum of coefs[j] times the run that starts at starts[j], over j < n, by the same blocks. The runs lie apart
+// from those bytes.
 pub fn combine_in(
     buf: &mut [u8],
     at: usize,
