@@ -7,3 +7,4 @@ pub mod CharLaws
 pub mod DigitLaws
 pub mod LineLaws
 pub mod RunLaws
+pub mod NumberLaws

@@ -35,7 +35,7 @@ by-two-runs c = by (within 48 10 c) (within 97 6 c)
     by false false = refl
 
 -- below 16 just where it is a digit
-digit-says : (c : ℕ) → ltb (digitOr16 c) 16 ≡ isDigit c
+pub digit-says : (c : ℕ) → ltb (digitOr16 c) 16 ≡ isDigit c
 digit-says c =
     ⊎-elim
     (λ (t : isDigit c ≡ true).
@@ -44,7 +44,7 @@ digit-says c =
     (either-way (isDigit c))
 
 -- and below 16 it is the value, also of what is none
-digit-low : (c : ℕ) → digitOr16 c % 16 ≡ digitValue c
+pub digit-low : (c : ℕ) → digitOr16 c % 16 ≡ digitValue c
 digit-low c =
     ⊎-elim
     (λ (t : isDigit c ≡ true).
@@ -53,7 +53,7 @@ digit-low c =
     (either-way (isDigit c))
 
 -- the larger of two is below a bound where both are
-larger-below : (a b m : ℕ) → ltb (pick (ltb a b) b a) m ≡ both (ltb b m) (ltb a m)
+pub larger-below : (a b m : ℕ) → ltb (pick (ltb a b) b a) m ≡ both (ltb b m) (ltb a m)
 larger-below a b m =
     below-or-not a b
     (λ (h : a < b).

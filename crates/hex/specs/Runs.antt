@@ -8,7 +8,7 @@ use Rattle.lists.specs.Part.{within}
 use Rattle.lists.specs.Search.{all}
 use Rattle.lists.specs.Tabulate.{at}
 use Rattle.hex.specs.Hex.{digitAt, lineChar}
-use Rattle.hex.specs.Digit.{isDigit, digitValue}
+use Rattle.hex.specs.Digit.{isDigit, digitValue, digitsAt}
 use Rattle.hex.specs.Line.{byteAt}
 
 -- a digit's value, 16 for what is none
@@ -43,7 +43,7 @@ abbrev pub headRight : List ℕ → ℕ → ℕ → ℕ → Bool
 headRight text a target frame = all (λ j. eqb (at text (a + j)) (headOf target frame j)) 10
 
 abbrev pub digitsRight : List ℕ → ℕ → ℕ → Bool
-digitsRight text from u = all (λ k. isDigit (at text (from + k))) (2 * u)
+digitsRight text from u = digitsAt text from (2 * u)
 
 abbrev pub bytesFrom : List ℕ → ℕ → ℕ → ℕ → ℕ
 bytesFrom text from begins x = byteAt text (from + 2 * (x - begins))

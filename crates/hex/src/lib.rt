@@ -6,11 +6,12 @@ ghost use lib.ListN.{length};
 ghost use Rattle.lists.specs.Pick.{pick};
 ghost use Rattle.lists.specs.Span.{Span};
 ghost use Rattle.hex.specs.Hex.{hexDigit};
+ghost use Rattle.hex.specs.Digit.{digitsAt, numberAt};
 ghost use Rattle.hex.specs.Line.{lineRight};
 ghost use Rattle.hex.specs.Runs.{letterOr16, decimalOr, digitOr16, headOf, headFrom, headRight, unitFrom, digitsRight, lineFrom, bytesFrom};
 
 // The lower-case digit of a number below 16.
-fn hex_digit(x: u8) -> u8
+pub fn hex_digit(x: u8) -> u8
     requires { ⌜ x < 16 ⌝ }
     ensures { λ r. ⌜ r ≡ hexDigit x ⌝ }
 {
@@ -103,7 +104,7 @@ fn write_head(target: u64, frame: u64, text: &mut [u8], at: usize)
 }
 
 // Two digits for each of the u bytes of the image from `begins` on, high before low; `% 16` as in `digitAt`, for bytes it costs nothing.
-fn write_unit(image: &[u8], begins: usize, u: usize, text: &mut [u8], from: usize)
+pub fn write_unit(image: &[u8], begins: usize, u: usize, text: &mut [u8], from: usize)
     requires { ⌜ (begins + u ≤ length (now image)) × (from + 2 * u ≤ length (now text)) ⌝ }
     ensures { λ _. ⌜ Span (unitFrom (now (image .entry)) begins from) from (from + 2 * u) (now (text .entry)) (now (text .exit)) ⌝ }
 {
@@ -136,6 +137,37 @@ pub fn write_line(
     text[at + 10 + 2 * u] = 10;
 }
 
+// ---- digits read
+
+// Whether the n characters from `from` on are digits. The loop has no way out, so that it runs on vectors.
+pub fn is_digits(text: &[u8], from: usize, n: usize) -> bool
+    requires { ⌜ from + n ≤ length (now text) ⌝ }
+    ensures { λ r. ⌜ r ≡ digitsAt (now (text .entry)) from n ⌝ }
+{
+    let mut i = 0;
+    let mut worst: u8 = 0;
+    while i < n {
+        worst = larger(worst, digit_or_16(text[from + i]));
+        i += 1;
+    }
+    worst < 16
+}
+
+// The number that the n digits from `from` on tell; what is no digit counts 0.
+pub fn number_at(text: &[u8], from: usize, n: usize) -> u64
+    requires { ⌜ (from + n ≤ length (now text)) × (n ≤ 16) ⌝ }
+    ensures { λ r. ⌜ r ≡ numberAt (now (text .entry)) from n ⌝ }
+{
+    let mut i = 0;
+    let mut number: u64 = 0;
+    while i < n {
+        let digit = digit_or_16(text[from + i]) % 16;
+        number = 16 * number + digit as u64;
+        i += 1;
+    }
+    number
+}
+
 // ---- a line read
 
 fn head_right(text: &[u8], at: usize, target: u64, frame: u64) -> bool
@@ -154,7 +186,7 @@ fn head_right(text: &[u8], at: usize, target: u64, frame: u64) -> bool
 
 // Whether the 2u characters from `from` on are digits; what they tell goes to the u bytes of the image from `begins` on. The loop has no way
 // out, so that it runs on vectors: the largest of all values says in the end whether all were digits. What is no digit is stored as 0.
-fn read_unit(text: &[u8], from: usize, image: &mut [u8], begins: usize, u: usize) -> bool
+pub fn read_unit(text: &[u8], from: usize, image: &mut [u8], begins: usize, u: usize) -> bool
     requires { ⌜ (from + 2 * u ≤ length (now text)) × (begins + u ≤ length (now image)) ⌝ }
     ensures { λ r. ⌜ (r ≡ digitsRight (now (text .entry)) from u) × Span (bytesFrom (now (text .entry)) from begins) begins (begins + u) (now (image .entry)) (now (image .exit)) ⌝ }
 {

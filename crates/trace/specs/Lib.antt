@@ -1,0 +1,7 @@
+pub mod Fields
+pub mod Forms
+pub mod Told
+pub mod FieldLaws
+pub mod FormLaws
+pub mod Written
+pub mod WrittenLaws
