@@ -3,8 +3,8 @@
  *
  * Every call takes any numbers and any lengths, tests everything itself and answers the lowest refusal
  * number that applies; 0 is accepted. After a refusal an output buffer (read, listing, prepare, hex line,
- * a pool's text, an image filled from a text) is all zeros, returned numbers are 0 unless stated, and
- * nothing else that was lent has changed.
+ * a pool's text, an image filled from a text, a line's answer) is all zeros, returned numbers are 0 unless
+ * stated, and nothing else that was lent has changed.
  *
  * What a caller owes, since C cannot be asked: a pointer with a length leads to that many elements, aligned
  * for their type, also where the length is 0 (not NULL); a buffer that a call may change overlaps no other
@@ -31,14 +31,16 @@ enum splicebell_refusal {
     SPLICEBELL_BAD_RECORD = 3,         /* the failure record is bad */
     SPLICEBELL_OUTSIDE = 4,            /* tile, group, unit, frame, target, offset or range outside,
                                         * or more than 64 ranges in a list */
-    SPLICEBELL_BAD_BUFFER_LENGTH = 5,  /* a unit, group, scratch, line, text or list buffer of wrong length */
+    SPLICEBELL_BAD_BUFFER_LENGTH = 5,  /* a unit, group, scratch, line, text or list buffer of wrong length,
+                                        * or too short a buffer for an answer */
     SPLICEBELL_ALREADY_FAILED = 6,     /* the target has failed already */
     SPLICEBELL_DUD = 7,                /* K targets have failed already */
     SPLICEBELL_TOO_MANY_MISSING = 8,   /* more than K units named missing */
     SPLICEBELL_BAD_CATALOGUE = 9,      /* count above the slice, or keys not strictly rising */
     SPLICEBELL_CATALOGUE_FULL = 10,    /* no free slot, and the key is new */
     SPLICEBELL_NO_SUCH_RECORD = 11,    /* no record of that key, or none that matches in all three */
-    SPLICEBELL_WRONG_LINE = 12         /* a text that is not the hex lines of a pool of this layout */
+    SPLICEBELL_WRONG_LINE = 12,        /* a text that is not the hex lines of a pool of this layout */
+    SPLICEBELL_BAD_TRACE = 13          /* a malformed line of a trace, or a pool too large for a replay */
 };
 
 /* N data, K parity and K spare units a group, P targets, U bytes a unit, T tiles, the permutations' cookie. */
@@ -157,6 +159,19 @@ typedef struct splicebell_page {
 typedef struct splicebell_text_read {
     uint64_t refusal, line;
 } splicebell_text_read;
+
+/* What a trace begins with: its layout, and the bytes of the image that it is played on. */
+typedef struct splicebell_first_line {
+    uint64_t refusal;
+    splicebell_layout layout;
+    uint64_t image;
+} splicebell_first_line;
+
+/* How many bytes of the buffer are the answer, and the record after the event. */
+typedef struct splicebell_played {
+    uint64_t refusal, length;
+    splicebell_record record;
+} splicebell_played;
 
 /* ---- layout numbers, permutation, places, offsets, walk: nothing is lent */
 
@@ -287,6 +302,28 @@ uint64_t splicebell_write_text(splicebell_layout y, const uint8_t *image, size_t
  * Refusals: 1, 2, 12 (with the first wrong line). Refused: the image is all zeros, whatever its length. */
 splicebell_text_read splicebell_read_text(splicebell_layout y, const uint8_t *text, size_t text_len,
                                           uint8_t *image, size_t image_len);
+
+/* ---- a recorded day, replayed line by line: lower-case hex, single spaces, each line lent with its newline
+ *
+ * NN KK PP UUUU TTTTTT CCCCCCCCCCCCCCCC    the first line: the six layout numbers
+ * 01 OOOOOOOOOOOOOOOO BB..                 write: offset, bytes
+ * 02 TT                                    fail: target
+ * 03                                       repair
+ * 04 OOOOOOOOOOOOOOOO LLLLLLLLLLLLLLLL     read: offset, length */
+
+/* The layout that the first line tells, and the bytes of the image, which is zeros when the replay begins. The
+ * line is only read.
+ * Refusals: 1, 13 (malformed, or an image above 32,768 bytes). Refused: all numbers are 0. */
+splicebell_first_line splicebell_replay_first(const uint8_t *line, size_t line_len);
+
+/* Plays any other line. The first length bytes of answer become what a replay prints, with the newline: the
+ * number that the event's own call answers, 13 where the line is malformed (also one that has no newline, or
+ * more than 8,300 bytes before it); after an accepted read its bytes, after an accepted repair its count. The
+ * rest of answer stays. Image and record become what that call leaves. The line is only read.
+ * Refusals: 5 (answer_len < 24 + 2*image_len). Refused: answer is all zeros, image and record are unchanged. */
+splicebell_played splicebell_replay_line(splicebell_layout y, splicebell_record r, uint8_t *image,
+                                         size_t image_len, const uint8_t *line, size_t line_len,
+                                         uint8_t *answer, size_t answer_len);
 
 #ifdef __cplusplus
 }

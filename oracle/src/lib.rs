@@ -16,4 +16,5 @@ pub mod pool;
 pub mod pool_list;
 pub mod pool_text;
 pub mod programs;
+pub mod replay;
 pub mod selfcheck;

@@ -1,5 +1,6 @@
 //! `oracle expected NAME` prints the expected output of a program, `oracle
-//! names` lists the programs, `oracle selfcheck` tries document 01's examples.
+//! input NAME` the standard input of one that reads it, `oracle names` lists
+//! the programs, `oracle selfcheck` tries document 01's examples.
 
 use std::io::Write;
 use std::process::ExitCode;
@@ -8,25 +9,32 @@ fn main() -> ExitCode {
     let words: Vec<String> = std::env::args().skip(1).collect();
     let words: Vec<&str> = words.iter().map(String::as_str).collect();
     match words[..] {
-        ["expected", name] => expected(name),
+        ["expected", name] => {
+            let text = oracle::programs::expected(name).map(String::into_bytes);
+            print(text, &format!("no program named {name}"))
+        }
+        ["input", name] => {
+            let text = oracle::programs::input(name);
+            print(text, &format!("no program named {name} reads an input"))
+        }
         ["names"] => {
             println!("{}", oracle::programs::NAMES.join("\n"));
             ExitCode::SUCCESS
         }
         ["selfcheck"] => selfcheck(),
         _ => {
-            eprintln!("usage: oracle expected NAME | oracle names | oracle selfcheck");
+            eprintln!("usage: oracle expected NAME | input NAME | names | selfcheck");
             ExitCode::from(2)
         }
     }
 }
 
-fn expected(name: &str) -> ExitCode {
-    let Some(text) = oracle::programs::expected(name) else {
-        eprintln!("oracle: no program named {name}");
+fn print(text: Option<Vec<u8>>, missing: &str) -> ExitCode {
+    let Some(text) = text else {
+        eprintln!("oracle: {missing}");
         return ExitCode::from(2);
     };
-    match std::io::stdout().write_all(text.as_bytes()) {
+    match std::io::stdout().write_all(&text) {
         Ok(()) => ExitCode::SUCCESS,
         Err(_) => ExitCode::FAILURE,
     }

@@ -171,3 +171,19 @@ pub fn read_text(y: splicebell_layout, text: &[u8], image: &mut [u8]) -> spliceb
     let (into, room) = (image.as_mut_ptr(), image.len());
     unsafe { splicebell_read_text(y, text.as_ptr(), text.len(), into, room) }
 }
+
+pub fn replay_first(line: &[u8]) -> splicebell_first_line {
+    unsafe { splicebell_replay_first(line.as_ptr(), line.len()) }
+}
+
+pub fn replay_line(
+    y: splicebell_layout,
+    r: splicebell_record,
+    image: &mut [u8],
+    line: &[u8],
+    answer: &mut [u8],
+) -> splicebell_played {
+    let (state, length) = (image.as_mut_ptr(), image.len());
+    let (into, room) = (answer.as_mut_ptr(), answer.len());
+    unsafe { splicebell_replay_line(y, r, state, length, line.as_ptr(), line.len(), into, room) }
+}

@@ -254,9 +254,39 @@ impl Layout {
         text_answered(refusal, line)
     }
 
+    /// The layout that the first line of a trace tells, and the bytes of the image that the trace is replayed on,
+    /// at most 32,768. The line is lent with its newline; [`Pool::replay_line`](crate::Pool::replay_line) plays
+    /// those after it.
+    ///
+    /// ```
+    /// use splicebell::{Layout, Refusal};
+    ///
+    /// let (layout, image) = Layout::from_first_line(b"01 01 03 0002 000001 000000000000002a\n")?;
+    /// assert_eq!(layout, Layout { n: 1, k: 1, p: 3, u: 2, t: 1, cookie: 42 });
+    /// assert_eq!(image, 6);
+    ///
+    /// let refused = |line: &[u8]| Layout::from_first_line(line).unwrap_err();
+    /// let two_targets = b"01 01 02 0002 000001 000000000000002a\n";
+    /// assert_eq!(refused(two_targets), Refusal::BadLayout);
+    /// let image_of_98_304_bytes = b"01 01 03 1000 000008 000000000000002a\n";
+    /// assert_eq!(refused(image_of_98_304_bytes), Refusal::BadTrace);
+    /// let no_newline = b"01 01 03 0002 000001 000000000000002a";
+    /// assert_eq!(refused(no_newline), Refusal::BadTrace);
+    /// # Ok::<(), Refusal>(())
+    /// ```
+    pub fn from_first_line(line: &[u8]) -> Result<(Layout, u64)> {
+        let raw::splicebell_first_line { refusal, layout, image } = calls::replay_first(line);
+        answered(refusal, (Layout::from_raw(layout), image))
+    }
+
     pub(crate) fn to_raw(self) -> raw::splicebell_layout {
         let Layout { n, k, p, u, t, cookie } = self;
         raw::splicebell_layout { n, k, p, u, t, cookie }
+    }
+
+    fn from_raw(layout: raw::splicebell_layout) -> Layout {
+        let raw::splicebell_layout { n, k, p, u, t, cookie } = layout;
+        Layout { n, k, p, u, t, cookie }
     }
 }
 

@@ -243,6 +243,53 @@ impl<'a> Pool<'a> {
         answered(calls::write_text(self.layout.to_raw(), self.image, text), ())
     }
 
+    /// 24 + 2 times the bytes of the image: how long a buffer for an answer of [`Pool::replay_line`] is at least.
+    pub fn answer_length(&self) -> usize {
+        24 + 2 * self.image.len()
+    }
+
+    /// Plays one line of a trace, lent with its newline, and answers what a replay prints for it: the number of
+    /// the event's own call, 13 for a malformed line, and what an accepted read or repair tells. Image and record
+    /// become what that call leaves.
+    ///
+    /// The answer is the beginning of `answer`, whose other bytes stay. Refused with 5, where `answer` is shorter
+    /// than [`Pool::answer_length`] and only there: `answer` is all zeros, and nothing was played.
+    ///
+    /// ```
+    /// use splicebell::{Layout, Pool, Refusal};
+    ///
+    /// let day = "01 01 03 0002 000001 0000000000000000\n\
+    ///            01 0000000000000000 4142\n\
+    ///            02 01\n\
+    ///            02 02\n\
+    ///            04 0000000000000000 0000000000000002\n\
+    ///            04 0000000000000001 0000000000000002\n\
+    ///            a line that is none\n\
+    ///            03\n";
+    /// let mut lines = day.split_inclusive('\n').map(str::as_bytes);
+    /// let (layout, length) = Layout::from_first_line(lines.next().unwrap_or_default())?;
+    /// let mut image = vec![0; length as usize];
+    /// let mut pool = Pool::new(layout, &mut image);
+    /// let mut answer = vec![0; pool.answer_length()];
+    /// let mut printed = Vec::new();
+    /// for line in lines {
+    ///     printed.extend_from_slice(pool.replay_line(line, &mut answer)?);
+    /// }
+    /// assert_eq!(printed, b"0\n0\n7\n0 4142\n4\n13\n0 1\n");
+    /// assert_eq!((pool.record().k, pool.record().q), (1, 1));
+    ///
+    /// let mut too_short = [9; 35];
+    /// assert_eq!(pool.replay_line(b"03\n", &mut too_short), Err(Refusal::BadBufferLength));
+    /// assert_eq!(too_short, [0; 35]);
+    /// # Ok::<(), Refusal>(())
+    /// ```
+    pub fn replay_line<'s>(&mut self, line: &[u8], answer: &'s mut [u8]) -> Result<&'s [u8]> {
+        let (y, r) = self.to_raw();
+        let played = calls::replay_line(y, r, self.image, line, answer);
+        self.record = Record::from_raw(played.record);
+        answered(played.refusal, &answer[..played.length as usize])
+    }
+
     fn to_raw(&self) -> (raw::splicebell_layout, raw::splicebell_record) {
         (self.layout.to_raw(), self.record.to_raw())
     }

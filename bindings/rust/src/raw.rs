@@ -194,6 +194,22 @@ pub struct splicebell_text_read {
     pub line: u64,
 }
 
+#[repr(C)]
+#[derive(Clone, Copy, Debug, Default, PartialEq, Eq)]
+pub struct splicebell_first_line {
+    pub refusal: u64,
+    pub layout: splicebell_layout,
+    pub image: u64,
+}
+
+#[repr(C)]
+#[derive(Clone, Copy, Debug, Default, PartialEq, Eq)]
+pub struct splicebell_played {
+    pub refusal: u64,
+    pub length: u64,
+    pub record: splicebell_record,
+}
+
 extern "C" {
     pub fn splicebell_measure(y: splicebell_layout) -> splicebell_measured;
     pub fn splicebell_tile_permutation(y: splicebell_layout, tile: u64) -> splicebell_entries;
@@ -321,4 +337,15 @@ extern "C" {
         image: *mut u8,
         image_len: usize,
     ) -> splicebell_text_read;
+    pub fn splicebell_replay_first(line: *const u8, line_len: usize) -> splicebell_first_line;
+    pub fn splicebell_replay_line(
+        y: splicebell_layout,
+        r: splicebell_record,
+        image: *mut u8,
+        image_len: usize,
+        line: *const u8,
+        line_len: usize,
+        answer: *mut u8,
+        answer_len: usize,
+    ) -> splicebell_played;
 }

@@ -23,7 +23,8 @@ pub enum Refusal {
     /// 4: tile, group, unit, frame, target, offset or range outside, or more than 64 ranges in a list. A
     /// [`ListRefusal`] tells the range.
     Outside = 4,
-    /// 5: a unit, group, scratch, line, text or list buffer not of its exact length.
+    /// 5: a unit, group, scratch, line, text or list buffer not of its exact length, or too short a buffer for
+    /// an answer.
     BadBufferLength = 5,
     /// 6: target already failed.
     AlreadyFailed = 6,
@@ -39,6 +40,8 @@ pub enum Refusal {
     NoSuchRecord = 11,
     /// 12: a text that is not the hex lines of a pool of this layout. A [`TextRefusal`] tells the line.
     WrongLine = 12,
+    /// 13: a malformed line of a trace, or a pool too large for a replay.
+    BadTrace = 13,
 }
 
 /// What a call answers: its value, or why it was refused.
@@ -46,7 +49,7 @@ pub type Result<T> = std::result::Result<T, Refusal>;
 
 impl Refusal {
     /// Every refusal, in the order of its number.
-    pub const ALL: [Refusal; 12] = [
+    pub const ALL: [Refusal; 13] = [
         Refusal::BadLayout,
         Refusal::BadImageLength,
         Refusal::BadRecord,
@@ -59,14 +62,15 @@ impl Refusal {
         Refusal::CatalogueFull,
         Refusal::NoSuchRecord,
         Refusal::WrongLine,
+        Refusal::BadTrace,
     ];
 
-    /// The number of this refusal, 1 to 12.
+    /// The number of this refusal, 1 to 13.
     pub fn number(self) -> u64 {
         self as u64
     }
 
-    /// The refusal of a number; none for 0, which means accepted, and for numbers above 12.
+    /// The refusal of a number; none for 0, which means accepted, and for numbers above 13.
     pub fn from_number(number: u64) -> Option<Refusal> {
         Refusal::ALL.into_iter().find(|refusal| refusal.number() == number)
     }
@@ -91,6 +95,9 @@ impl Refusal {
             Refusal::CatalogueFull => "catalogue full and the key is new",
             Refusal::NoSuchRecord => "no such record",
             Refusal::WrongLine => "a text that is not the hex lines of a pool of this layout",
+            Refusal::BadTrace => {
+                "a malformed line of a trace, or a pool too large for a replay"
+            }
         }
     }
 }
@@ -218,8 +225,8 @@ pub(crate) fn answered<T>(number: u64, value: T) -> Result<T> {
 #[cfg(test)]
 mod tests {
     #[test]
-    #[should_panic(expected = "the library answered 13")]
+    #[should_panic(expected = "the library answered 14")]
     fn a_number_outside_the_table_stops_the_program() {
-        let _ = super::answered(13, ());
+        let _ = super::answered(14, ());
     }
 }

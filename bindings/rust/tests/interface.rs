@@ -286,6 +286,86 @@ fn a_refused_list_says_why() {
 }
 
 #[test]
+fn a_replayed_day_leaves_what_its_calls_leave() -> Result<(), Refusal> {
+    let day = "02 02 07 0003 000002 000000000000000b\n\
+               01 0000000000000004 612062616720\n\
+               02 05\n\
+               01 0000000000000006 72656421\n\
+               02 05\n\
+               02 01\n\
+               02 07\n\
+               02 00\n\
+               04 0000000000000004 0000000000000006\n\
+               04 ffffffffffffffff 0000000000000001\n\
+               04 0000000000000054 0000000000000000\n\
+               03\n\
+               03\n";
+    let mut lines = day.split_inclusive('\n').map(str::as_bytes);
+    let (layout, length) = Layout::from_first_line(lines.next().unwrap_or_default())?;
+    assert_eq!((layout, length), (LAYOUT, LAYOUT.measure()?.image));
+    let (mut image, mut same_image) = (blank_image(), blank_image());
+    let mut direct = Pool::new(LAYOUT, &mut same_image);
+    direct.write(4, b"a bag ")?;
+    direct.fail(5)?;
+    direct.write(6, b"red!")?;
+    direct.fail(1)?;
+    let missing = direct.repair()?;
+    let mut replayed = Pool::new(LAYOUT, &mut image);
+    let mut answer = vec![0; replayed.answer_length()];
+    let mut printed = String::new();
+    for line in lines {
+        printed += &String::from_utf8_lossy(replayed.replay_line(line, &mut answer)?);
+    }
+    let read = "0 612072656421\n4\n0 \n";
+    assert_eq!(printed, format!("0\n0\n0\n6\n0\n4\n7\n{read}0 {missing}\n0 0\n"));
+    assert_eq!(replayed.image(), direct.image());
+    assert_eq!(replayed.record(), direct.record());
+    Ok(())
+}
+
+#[test]
+fn a_line_that_is_not_played_changes_nothing() {
+    let mut image = blank_image();
+    image.fill(1);
+    let record = Record { failed: [5, 1, 9], k: 1, q: 0 };
+    let mut pool = Pool::with_record(LAYOUT, record, &mut image);
+    let mut answer = vec![8; pool.answer_length()];
+    let longest = "01 0000000000000000 ".len() + 2 * 4140;
+    let too_long = [b"01 0000000000000000 ", &vec![b'0'; 2 * 4141][..], b"\n"].concat();
+    assert_eq!(too_long.len(), longest + 2 + 1);
+    let malformed: [&[u8]; 8] =
+        [b"", b"\n", b"02 0", b"02 00", b"02 0A\n", b"03\r\n", b"02 00\n\n", &too_long];
+    for line in malformed {
+        answer.fill(8);
+        assert_eq!(pool.replay_line(line, &mut answer), Ok(&b"13\n"[..]));
+        assert!(answer[3..].iter().all(|byte| *byte == 8));
+    }
+    answer.pop();
+    assert_eq!(pool.replay_line(b"02 00\n", &mut answer), Err(Refusal::BadBufferLength));
+    assert!(answer.iter().all(|byte| *byte == 0));
+    assert_eq!(pool.record(), record);
+    assert!(image.iter().all(|byte| *byte == 1));
+}
+
+#[test]
+fn a_bad_pool_is_an_answer_and_no_refusal() -> Result<(), Refusal> {
+    let mut image = blank_image();
+    let length = image.len();
+    let mut answer = vec![0; 24 + 2 * length];
+    let mut played = |layout, record, bytes: usize| -> Result<Vec<u8>, Refusal> {
+        let mut pool = Pool::with_record(layout, record, &mut image[..bytes]);
+        let line = pool.replay_line(b"03\n", &mut answer)?.to_vec();
+        assert_eq!(pool.record(), record);
+        Ok(line)
+    };
+    let unfailed = Record { q: 1, ..Record::default() };
+    assert_eq!(played(Layout { p: 65, ..LAYOUT }, unfailed, 0)?, b"1\n");
+    assert_eq!(played(LAYOUT, unfailed, length - 1)?, b"2\n");
+    assert_eq!(played(LAYOUT, unfailed, length)?, b"3\n");
+    Ok(())
+}
+
+#[test]
 fn empty_ranges_are_taken_anywhere_inside() -> Result<(), Refusal> {
     let mut image = blank_image();
     let mut pool = Pool::new(LAYOUT, &mut image);
@@ -335,7 +415,7 @@ fn a_bad_catalogue_is_refused_and_kept() {
     assert_eq!((catalogue.count(), catalogue.slots()), (2, &falling[..]));
 }
 
-/// docs/ABI.md states what the deepest calls, a write and a list of writes, take.
+/// docs/ABI.md states what the deepest calls take: a write, a list of writes, a replayed write.
 #[test]
 fn a_thread_of_64_kib_is_enough() {
     let largest = Layout { n: 16, k: 3, p: 22, u: 4096, t: 1, cookie: 5 };
@@ -348,6 +428,12 @@ fn a_thread_of_64_kib_is_enough() {
         let mut file = vec![1; 16 * 4096 - 2];
         pool.write(1, &file)?;
         pool.write_pieces(&[(1, &file), (0, b"again")])?;
+        let longest = format!("01 {:016x} {}\n", 1, "5a".repeat(4140));
+        let mut answer = vec![0; pool.answer_length()];
+        for line in [&longest, "04 0000000000000000 0000000000010000\n"] {
+            pool.replay_line(line.as_bytes(), &mut answer)?;
+            assert_eq!(answer[0], b'0');
+        }
         pool.repair()?;
         pool.read(1, &mut file)
     };

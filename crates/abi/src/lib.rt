@@ -21,6 +21,8 @@ use pool_list::ListWritten;
 use pool_look::Shown;
 use pool_repair::Repaired;
 use pool_text::TextRead;
+use replay_line::FirstLine;
+use replay_line::Played;
 ghost use mathlib.Core.Path.{_≡_};
 ghost use lib.ListN.{length};
 ghost use Rattle.layout.specs.Measure.{measuredOf};
@@ -35,6 +37,8 @@ ghost use Rattle.pool_list.specs.Ranges.{WritesList};
 ghost use Rattle.entries.specs.Promise.{Lookup, Insert, Delete, Listing};
 ghost use Rattle.hexline.specs.HexLine.{HexLine};
 ghost use Rattle.pool_text.specs.TextCalls.{WritesText, ReadsText};
+ghost use Rattle.replay_line.specs.First.{firstOf};
+ghost use Rattle.replay_line.specs.Play.{Plays};
 ghost use Rattle.abi.specs.Walked.{walkedOf};
 ghost use Rattle.abi.specs.ShowsAt.{ShowsAt};
 
@@ -287,4 +291,26 @@ pub extern "C" fn splicebell_read_text(y: Layout, text: &[u8], image: &mut [u8])
     ensures { λ r. ⌜ ReadsText y (now (image .entry)) (now (text .entry)) (r .refusal) (r .line) (now (image .exit)) ⌝ }
 {
     pool_text::read_text(y, text, image)
+}
+
+// ---- a recorded trace
+
+#[no_mangle]
+pub extern "C" fn splicebell_replay_first(line: &[u8]) -> FirstLine
+    ensures { λ r. ⌜ r ≡ firstOf (now (line .entry)) ⌝ }
+{
+    replay_line::first(line)
+}
+
+#[no_mangle]
+pub extern "C" fn splicebell_replay_line(
+    y: Layout,
+    r: Record,
+    image: &mut [u8],
+    line: &[u8],
+    answer: &mut [u8],
+) -> Played
+    ensures { λ x. ⌜ Plays y r (now (image .entry)) (now (line .entry)) (now (answer .entry)) x (now (image .exit)) (now (answer .exit)) ⌝ }
+{
+    replay_line::play(y, r, image, line, answer)
 }

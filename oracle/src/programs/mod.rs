@@ -1,4 +1,5 @@
-//! The expected output of every program of the project, one module each.
+//! The expected output of every program of the project, one module each, and
+//! the standard input of one that reads it.
 //! oracle/README.md states the formats and the inputs.
 
 pub mod catalogue_runs;
@@ -10,6 +11,7 @@ pub mod mail;
 pub mod morning;
 pub mod pool_runs;
 pub mod products;
+pub mod replay;
 mod row;
 pub mod session;
 
@@ -23,7 +25,7 @@ macro_rules! line {
 pub(crate) use line;
 
 /// The programs by name.
-pub const NAMES: [&str; 10] = [
+pub const NAMES: [&str; 11] = [
     "examples",
     "layouts",
     "products",
@@ -34,6 +36,7 @@ pub const NAMES: [&str; 10] = [
     "morning",
     "mail",
     "session",
+    "replay",
 ];
 
 /// The expected output of the program of this name.
@@ -49,6 +52,15 @@ pub fn expected(name: &str) -> Option<String> {
         "morning" => Some(morning::output()),
         "mail" => Some(mail::output()),
         "session" => Some(session::output()),
+        "replay" => Some(replay::output()),
+        _ => None,
+    }
+}
+
+/// The standard input of the program of this name, where it reads one.
+pub fn input(name: &str) -> Option<Vec<u8>> {
+    match name {
+        "replay" => Some(replay::input()),
         _ => None,
     }
 }

@@ -107,6 +107,14 @@ impl Trial<'_> {
         self.number(name, u64::from(byte), u64::from(expected));
     }
 
+    /// Compares a buffer of which the call fills the first `length` bytes, and no others.
+    pub fn beginning(&mut self, name: &str, lent: &Lent<u8>, expected: &[u8], length: usize) {
+        if let Some(spoil) = self.spoil {
+            spoil.rest(lent, length);
+        }
+        self.buffer(name, lent, expected);
+    }
+
     /// Compares every byte of a lent buffer, and the guards on both its sides.
     pub fn buffer<T: Copy + PartialEq + Debug>(
         &mut self,

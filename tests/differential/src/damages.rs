@@ -13,12 +13,12 @@ type Harm = fn(&mut Draws, &Layout, &mut Vec<u8>);
 /// Texts of other layouts are of images up to these many bytes, usually and at most: the model takes its time.
 const OTHER_IMAGE: u64 = 400;
 const LONGEST_OTHER_IMAGE: u64 = 1 << 13;
-const DIGITS: &[u8] = b"0123456789abcdef";
+pub const DIGITS: &[u8] = b"0123456789abcdef";
 /// Bytes that are easily taken for a digit: those beside the digits, and those that other readers of numbers take.
-const NEARLY_DIGITS: &[u8] = b"/:`g@GAFx+";
+pub const NEARLY_DIGITS: &[u8] = b"/:`g@GAFx+";
 /// Likewise for a space, and for a newline.
-const NEARLY_SPACES: &[u8] = b"\t_\r\n\x1f!";
-const NEARLY_NEWLINES: &[u8] = b"\r\t\x0b\x0c ;";
+pub const NEARLY_SPACES: &[u8] = b"\t_\r\n\x1f!";
+pub const NEARLY_NEWLINES: &[u8] = b"\r\t\x0b\x0c ;";
 
 pub const DAMAGES: [(&str, Harm); 21] = [
     ("upper case", upper_case),

@@ -10,12 +10,15 @@ mod faults;
 mod groups;
 mod layouts;
 mod lent;
+mod line_damages;
+mod line_kinds;
 mod list_kinds;
 mod lists;
 mod places;
 mod pool_calls;
 mod pools;
 mod records;
+mod replays;
 mod spoil;
 mod tally;
 mod texts;
@@ -32,7 +35,8 @@ const USAGE: &str =
   --runs   how many calls at least
   --round  this round alone, each call printed before it is made
   --heap   every lent buffer is a heap block of its own: for memcheck
-  --spoil  makes a fault on purpose, which must be reported: answer, byte, before, after, look, store";
+  --spoil  makes a fault on purpose, which must be reported: answer, byte, before, after, look, store,
+           rest";
 
 /// Under two minutes, also where x86-64 is emulated.
 const USUAL_RUNS: u64 = 300_000;
@@ -64,11 +68,12 @@ fn options(mut words: impl Iterator<Item = String>) -> Option<Options> {
 fn round(bench: &mut Bench, seed: u64, number: u64) {
     ROUND.store(number, Relaxed);
     bench.draws = Draws::new(seed, number);
-    match bench.draws.below(11) {
+    match bench.draws.below(13) {
         0 | 1 => places::round(bench),
         2 | 3 => groups::round(bench),
         4 | 5 => catalogues::round(bench),
         6 => texts::round(bench),
+        7 | 8 => replays::round(bench),
         _ => pools::round(bench),
     }
 }

@@ -17,7 +17,7 @@ const USUAL_GROUPS: u64 = 60;
 const LONGEST_UNIT: u64 = 1 << 13;
 
 /// An offset and a length: mostly inside the file, often up to its very end, sometimes past it.
-fn range(draws: &mut Draws, pool: &Pool) -> (u64, usize) {
+pub fn range(draws: &mut Draws, pool: &Pool) -> (u64, usize) {
     let y = &pool.layout;
     let capacity = y.derived().capacity;
     let offset = draws.near(capacity);
@@ -117,13 +117,13 @@ pub fn write_at(
     trial.buffer("image", &image, &after.image);
     trial.buffer("bytes", &bytes, stored);
     if let Some(wanted) = wanted {
-        trial.buffer("image, against that of the list", &image, wanted);
+        trial.buffer("image, against the same bytes stored otherwise", &image, wanted);
     }
     bench.end(trial, refusal);
     after
 }
 
-fn compare_record(trial: &mut Trial, answered: &splicebell_record, expected: &Record) {
+pub fn compare_record(trial: &mut Trial, answered: &splicebell_record, expected: &Record) {
     for (entry, (answered, expected)) in answered.failed.iter().zip(expected.failed).enumerate() {
         trial.number(["failed 0", "failed 1", "failed 2"][entry], *answered, expected);
     }
@@ -132,7 +132,7 @@ fn compare_record(trial: &mut Trial, answered: &splicebell_record, expected: &Re
 }
 
 /// A target: mostly any, often one that has failed.
-fn target(draws: &mut Draws, pool: &Pool) -> u64 {
+pub fn target(draws: &mut Draws, pool: &Pool) -> u64 {
     if draws.one_in(3) {
         draws.pick(&pool.record.failed)
     } else {
@@ -142,6 +142,10 @@ fn target(draws: &mut Draws, pool: &Pool) -> u64 {
 
 pub fn fail(bench: &mut Bench, pool: &Pool) -> Pool {
     let target = target(&mut bench.draws, pool);
+    fail_target(bench, pool, target)
+}
+
+pub fn fail_target(bench: &mut Bench, pool: &Pool, target: u64) -> Pool {
     let inputs = || format!("{} target {target}", pool.told());
     let mut trial = bench.begin(Call::Fail, &inputs);
     let image = bench.lend(&pool.image);

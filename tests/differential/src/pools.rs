@@ -29,9 +29,13 @@ pub struct Pool {
 }
 
 impl Pool {
-    /// A pool of zeros with no failures, or an image that holds no file.
     fn drawn(draws: &mut Draws) -> Pool {
         let layout = if draws.one_in(TALL) { layouts::tall(draws) } else { Pool::usual(draws) };
+        Pool::of(draws, layout)
+    }
+
+    /// A pool of zeros with no failures, or an image that holds no file.
+    pub fn of(draws: &mut Draws, layout: Layout) -> Pool {
         let length = layout.derived().image as usize;
         if draws.one_in(3) {
             let record = records::good(draws, &layout);
@@ -49,7 +53,7 @@ impl Pool {
     }
 
     /// The pool with something else in the place of one thing or more: mostly what a call must refuse.
-    fn damaged(&self, draws: &mut Draws) -> Pool {
+    pub fn damaged(&self, draws: &mut Draws) -> Pool {
         let mut pool = self.clone();
         loop {
             match draws.below(6) {
@@ -67,7 +71,7 @@ impl Pool {
     }
 
     /// Drawn bytes where no answer may depend on them: on failed targets and on spares that are no home.
-    fn scribble(&mut self, draws: &mut Draws) {
+    pub fn scribble(&mut self, draws: &mut Draws) {
         let (y, r) = (&self.layout, &self.record);
         self.is_scribbled = r.k > 0;
         let frames_bytes = self.image.len() / y.p as usize;

@@ -17,21 +17,34 @@ pub enum Spoil {
     Look,
     /// A byte of a buffer that is lent to be read is stored, the same as was there.
     Store,
+    /// What stands behind the answer to a replayed line is cleared, though it must stay.
+    Rest,
 }
 
-const KINDS: [(&str, Spoil); 6] = [
+const KINDS: [(&str, Spoil); 7] = [
     ("answer", Spoil::Answer),
     ("byte", Spoil::Byte),
     ("before", Spoil::Before),
     ("after", Spoil::After),
     ("look", Spoil::Look),
     ("store", Spoil::Store),
+    ("rest", Spoil::Rest),
 ];
 
 impl Spoil {
     pub fn named(name: &str) -> Option<Spoil> {
         let (_, kind) = KINDS.iter().find(|(known, _)| *known == name)?;
         Some(*kind)
+    }
+
+    /// Spoils what stands behind the first `kept` bytes of a buffer, where this kind does.
+    pub fn rest(self, lent: &Lent<u8>, kept: usize) {
+        if self == Spoil::Rest {
+            for i in kept..lent.len() {
+                // SAFETY: inside the buffer, which is lent to be changed.
+                unsafe { *lent.pointer().add(i) = 0 };
+            }
+        }
     }
 
     /// Spoils a buffer where this kind can; whether it did.

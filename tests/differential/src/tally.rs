@@ -1,7 +1,9 @@
-//! What has been tried so far: the calls with their refusal numbers, the layouts, the damage done to texts, and the
-//! kinds of lists of writes.
+//! What has been tried so far: the calls with their refusal numbers, the layouts, the damage done to texts and to
+//! replayed lines, the kinds of lists of writes, and those of replayed lines with the numbers of their answers.
 
 use crate::damages::DAMAGES;
+use crate::line_damages::LINE_DAMAGES;
+use crate::line_kinds::{FirstLine, Line, EVENTS, FIRST_KINDS, LINE_KINDS, MALFORMED};
 use crate::list_kinds::{Listed, KINDS};
 use oracle::layout::Layout;
 
@@ -32,10 +34,12 @@ pub enum Call {
     HexLine,
     WriteText,
     ReadText,
+    ReplayFirst,
+    ReplayLine,
 }
 
 /// The name of each call, and the numbers that it may answer by include/splicebell.h, beside 0.
-const CALLS: [(&str, &[usize]); 24] = [
+const CALLS: [(&str, &[usize]); 26] = [
     ("measure", &[1]),
     ("tile_permutation", &[1, 4]),
     ("tile_inverse", &[1, 4]),
@@ -60,6 +64,8 @@ const CALLS: [(&str, &[usize]); 24] = [
     ("hex_line", &[1, 2, 4, 5]),
     ("write_text", &[1, 2, 5]),
     ("read_text", &[1, 2, 12]),
+    ("replay_first", &[1, 13]),
+    ("replay_line", &[5]),
 ];
 
 impl Call {
@@ -68,8 +74,8 @@ impl Call {
     }
 }
 
-/// The refusal numbers, 0 among them: document 01's table, and 12 of document 02.
-const REFUSALS: usize = 13;
+/// The refusal numbers, 0 among them: document 01's table, and 12 and 13 of document 02.
+const REFUSALS: usize = 14;
 
 /// The lowest and the highest that was seen.
 #[derive(Clone, Copy)]
@@ -125,6 +131,14 @@ pub struct Tally {
     /// How often a list of each kind was met, and the ranges that were answered with 4.
     lists: [u64; KINDS.len()],
     ranges: Range,
+    replays: Ranges,
+    /// How often each event was answered with each number, and how often a line was malformed.
+    events: [[u64; REFUSALS]; EVENTS.len()],
+    malformed: u64,
+    /// How often each kind of damage was done to a line, and how often a line of each kind was met.
+    line_damages: [u64; LINE_DAMAGES.len()],
+    lines: [u64; LINE_KINDS.len()],
+    firsts: [u64; FIRST_KINDS.len()],
 }
 
 impl Tally {
@@ -136,6 +150,12 @@ impl Tally {
         damages: [0; DAMAGES.len()],
         lists: [0; KINDS.len()],
         ranges: Range::NONE,
+        replays: Ranges::NONE,
+        events: [[0; REFUSALS]; EVENTS.len()],
+        malformed: 0,
+        line_damages: [0; LINE_DAMAGES.len()],
+        lines: [0; LINE_KINDS.len()],
+        firsts: [0; FIRST_KINDS.len()],
     };
 
     pub fn add(&mut self, call: Call, refusal: u64) {
@@ -174,6 +194,35 @@ impl Tally {
         }
     }
 
+    /// A layout whose pool lines are played on.
+    pub fn add_replay(&mut self, layout: &Layout) {
+        self.replays.add(layout);
+    }
+
+    /// A line was damaged, in the way that has this number among [`LINE_DAMAGES`].
+    pub fn add_line_damage(&mut self, kind: usize) {
+        self.line_damages[kind] += 1;
+    }
+
+    /// A first line was asked for and answered.
+    pub fn add_first(&mut self, line: &FirstLine) {
+        for ((_, is_met), count) in FIRST_KINDS.iter().zip(&mut self.firsts) {
+            *count += u64::from(is_met(line));
+        }
+    }
+
+    /// A line was played and answered, or refused.
+    pub fn add_line(&mut self, line: &Line) {
+        for ((_, is_met), count) in LINE_KINDS.iter().zip(&mut self.lines) {
+            *count += u64::from(is_met(line));
+        }
+        match (line.event(), line.number()) {
+            (Some(event), Some(number)) => self.events[event][number] += 1,
+            (None, Some(_)) => self.malformed += 1,
+            _ => {}
+        }
+    }
+
     pub fn calls(&self) -> u64 {
         self.counts.iter().flatten().sum()
     }
@@ -185,9 +234,7 @@ impl Tally {
 
     pub fn print(&self) {
         for ((name, _), of_call) in CALLS.iter().zip(self.counts) {
-            let met = of_call.iter().enumerate().filter(|(_, count)| **count != 0);
-            let met: Vec<_> = met.map(|(number, count)| format!("{number}: {count}")).collect();
-            println!("{name:17}{:9}   {}", of_call.iter().sum::<u64>(), met.join(", "));
+            println!("{name:17}{:9}   {}", of_call.iter().sum::<u64>(), numbers_met(&of_call));
         }
         for number in 0..REFUSALS {
             println!("refusal {number:<9}{:9}", self.of_refusal(number));
@@ -199,23 +246,62 @@ impl Tally {
             println!("list: {name:30}{count:9}");
         }
         println!("list: ranges {} answered with 4", self.ranges);
+        self.print_lines();
         self.all.print("without an image");
         self.pools.print("pools");
         self.texts.print("texts");
+        self.replays.print("replays");
+    }
+
+    fn print_lines(&self) {
+        for ((name, _), of_event) in EVENTS.iter().zip(self.events) {
+            let answered = numbers_met(&of_event);
+            println!("line: {name:11}{:9}   {answered}", of_event.iter().sum::<u64>());
+        }
+        println!("line: malformed  {:9}   {MALFORMED}: {}", self.malformed, self.malformed);
+        for ((name, _), count) in LINE_DAMAGES.iter().zip(self.line_damages) {
+            println!("line: {name:25}{count:9}");
+        }
+        for ((name, _), count) in LINE_KINDS.iter().zip(self.lines) {
+            println!("line: {name:30}{count:9}");
+        }
+        for ((name, _), count) in FIRST_KINDS.iter().zip(self.firsts) {
+            println!("first line: {name:24}{count:9}");
+        }
     }
 
     /// The calls and their refusal numbers that were never met, the damage that was never done, and the kinds of
-    /// lists that were never met.
+    /// lists and of replayed lines that were never met.
     pub fn never_met(&self) -> Vec<String> {
         let mut never = Vec::new();
         for ((name, refusals), of_call) in CALLS.iter().zip(self.counts) {
             let numbers = [0].iter().chain(*refusals).filter(|number| of_call[**number] == 0);
             never.extend(numbers.map(|number| format!("{name} with {number}")));
         }
-        let damages = DAMAGES.iter().zip(self.damages).filter(|(_, count)| *count == 0);
-        never.extend(damages.map(|((name, _), _)| format!("a text with {name}")));
-        let lists = KINDS.iter().zip(self.lists).filter(|(_, count)| *count == 0);
-        never.extend(lists.map(|((name, _), _)| format!("a list with {name}")));
+        for ((name, answers), of_event) in EVENTS.iter().zip(self.events) {
+            let numbers = answers.iter().filter(|number| of_event[**number] == 0);
+            never.extend(numbers.map(|number| format!("a {name}'s line answered with {number}")));
+        }
+        if self.malformed == 0 {
+            never.push(format!("a line answered with {MALFORMED}"));
+        }
+        never.extend(unmet("a text with", &DAMAGES, &self.damages));
+        never.extend(unmet("a list with", &KINDS, &self.lists));
+        never.extend(unmet("a line damaged by", &LINE_DAMAGES, &self.line_damages));
+        never.extend(unmet("a line with", &LINE_KINDS, &self.lines));
+        never.extend(unmet("a first line with", &FIRST_KINDS, &self.firsts));
         never
     }
+}
+
+/// The numbers that were met, with how often.
+fn numbers_met(counts: &[u64]) -> String {
+    let met = counts.iter().enumerate().filter(|(_, count)| **count != 0);
+    met.map(|(number, count)| format!("{number}: {count}")).collect::<Vec<_>>().join(", ")
+}
+
+/// The kinds that were never counted, each named behind some words.
+fn unmet<T>(words: &str, kinds: &[(&str, T)], counts: &[u64]) -> Vec<String> {
+    let never = kinds.iter().zip(counts).filter(|(_, count)| **count == 0);
+    never.map(|((name, _), _)| format!("{words} {name}")).collect()
 }

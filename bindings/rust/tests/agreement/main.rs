@@ -63,6 +63,8 @@ fn rust_lines() -> Vec<String> {
         splicebell_changed { refusal count }
         splicebell_page { refusal count more next }
         splicebell_text_read { refusal line }
+        splicebell_first_line { refusal layout image }
+        splicebell_played { refusal length record }
     }
 }
 
@@ -169,6 +171,6 @@ fn with_common_names(mut functions: Functions) -> Functions {
 
 #[test]
 fn the_sources_were_read() {
-    assert_eq!(c_functions(&file(HEADER)).len(), 24);
-    assert_eq!(c_structs(&file(HEADER)).len(), 23);
+    assert_eq!(c_functions(&file(HEADER)).len(), 26);
+    assert_eq!(c_structs(&file(HEADER)).len(), 25);
 }

@@ -27,7 +27,7 @@ fn on_a_full_catalogue<T>(call: impl Fn(&mut Catalogue) -> Result<T, Refusal>) -
 }
 
 /// What the library says to a call of each kind, in the order of the numbers.
-fn provoked() -> [Option<Refusal>; 12] {
+fn provoked() -> [Option<Refusal>; 13] {
     let nothing_failed = Record::default();
     let one_failed = Record { failed: [2, 0, 0], k: 1, q: 0 };
     let repaired_unfailed = Record { failed: [0; 3], k: 0, q: 1 };
@@ -44,6 +44,7 @@ fn provoked() -> [Option<Refusal>; 12] {
         on_a_full_catalogue(|catalogue| catalogue.insert(Entry { device: 2, file: 1, cob: 1 })),
         on_a_full_catalogue(|catalogue| catalogue.delete(Entry { device: 1, file: 1, cob: 2 })),
         LAYOUT.read_text(b"", &mut [0; IMAGE_LENGTH]).err().map(Refusal::from),
+        Layout::from_first_line(b"").err(),
     ]
 }
 
@@ -59,7 +60,7 @@ fn numbers_lead_back_to_their_refusal() {
         assert_eq!(Refusal::from_number(number), Some(refusal));
     }
     assert_eq!(Refusal::from_number(0), None);
-    assert_eq!(Refusal::from_number(13), None);
+    assert_eq!(Refusal::from_number(14), None);
 }
 
 /// docs/TRACE.md quotes document 01's table as `number: words`.
