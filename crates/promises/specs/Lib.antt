@@ -14,6 +14,7 @@ pub mod Catalogue
 pub mod HexLine
 pub mod PoolText
 pub mod WriteList
+pub mod Replay
 pub mod Examples
 pub mod TextExamples
 pub mod ListExamples
