@@ -1,12 +1,14 @@
 -- Document 02, order 4: a recorded trace replayed. "The program runs the events from a zero pool and prints each answer. .. A malformed line prints number
 -- 13 and the run goes on with the next line; a refused event leaves the pool as the table says. The end state equals that of the calls made directly."
 use mathlib.Core.Path.{_≡_, refl, sym, ap, _∙_, subst, subst⁻¹}
-use mathlib.Core.Bool.{Bool}
-use mathlib.Core.List.{List, [], _∷_, _++_}
-use Prim.Native.Nat.{ℕ, zero, suc, _+_, _*_, _≤_, _<_}
+use mathlib.Core.Bool.{Bool, true}
+use mathlib.Core.List.{List, [], _∷_, _++_, map}
+use Prim.Native.Nat.{ℕ, zero, suc, _+_, _*_, _-_, _≤_, _<_}
 use native.Mathlib.Omega.{arith}
-use lib.ListN.{length, take, drop}
+use lib.ListN.{length, getD, take, drop}
 use lib.Seq.{take-at, drop-at}
+use borrow.Author.Tests.{eq-eqb}
+use Rattle.lists.specs.Pick.{below-or-not, clash, not-both-ways}
 use Rattle.lists.specs.Refusal.{LowestThatApplies, refusal-lowest, grant, grant-no, grant-yes}
 use Rattle.lists.specs.Tabulate.{at, zeros}
 use Rattle.numbers.specs.declared.Layout.{Layout}
@@ -16,16 +18,21 @@ use Rattle.hex.specs.Hex.{hexOf}
 use Rattle.pool.specs.Refusals.{rangeRefusal}
 use Rattle.pool.specs.Files.{part}
 use Rattle.pool.specs.Calls.{Reads, Writes, Fails, Repairs}
-use Rattle.trace.specs.Forms.{layoutAt}
-use Rattle.trace.specs.Told.{Told, malformed, toldWrite, toldFail, toldRepair, toldRead, toldOf}
+use Rattle.trace.specs.FieldLaws.{fields-ended}
+use Rattle.trace.specs.Forms.{isLayout, layoutAt}
+use Rattle.trace.specs.FormLaws.{kind-long, kind-unended}
+use Rattle.trace.specs.Told.{Told, malformed, toldWrite, toldFail, toldRepair, toldRead, toldAs, toldOf}
 use Rattle.trace.specs.Written.{lineOf, Tellable}
 use Rattle.trace.specs.WrittenLaws as W
 use Rattle.answers.specs.Decimal.{decimal, printed}
 use Rattle.replay_line.specs.declared.FirstLine.{FirstLine}
 use Rattle.replay_line.specs.declared.Played.{Played}
 use Rattle.replay_line.specs.First.{firstTests, firstRefusal, noLayout, firstOf}
-use Rattle.replay_line.specs.FirstLaws.{FirstAsked, first-asked}
+use Rattle.replay_line.specs.FirstLaws.{layout-length, first-malformed, first-asked}
 use Rattle.replay_line.specs.Play.{playedRecord, playedImage, answerOf, roomy, playRefusal, laidFirst, Plays}
+use Rattle.line_cursor.specs.Lines.{linesOf, joined, wholeOf, keptOf, cutLines}
+use Rattle.line_cursor.specs.LineLaws.{NewlineLast, lines-newline-last}
+use Rattle.line_cursor.specs.CutLaws as C
 use Rattle.promises.specs.Runs.{Event, write, fail, repair, read, State, start, step, run, laidOn}
 use Rattle.promises.specs.Demand3.{Right, demand-3, file-of-run}
 use Rattle.promises.specs.Tight.{same}
@@ -251,3 +258,80 @@ only-line = W.the-line
 -- a line that is not malformed tells an event that has a line, and so is that line
 pub well-formed-line : (line : List ℕ) → (toldOf line ≡ malformed → ⊥) → Tellable (toldOf line) × (lineOf (toldOf line) ≡ line)
 well-formed-line line f = let k = W.told-some line f in (W.tellable-told line k, W.written-told line k)
+
+-- ---- the whole program, from the lines of its input to its output
+
+-- "where it is malformed, or the pool exceeds 32,768 bytes, 13 is printed and the run ends, and where the numbers are refused, 1 is"; a first line that
+-- is not there at all is malformed too
+unfoldable pub replayOutput : List (List ℕ) → List ℕ
+replayOutput [] = printed 13 []
+replayOutput (first ∷ lines) =
+    grant (firstRefusal first) (replayPrints (layoutAt first 0) (zeroPool (layoutAt first 0) .rec) (zeroPool (layoutAt first 0) .img) lines)
+    (printed (firstRefusal first) [])
+
+-- however a stream comes in pieces, the lines that are cut from them are its lines, of a long one its first 8,301 bytes
+pub pieces-are-lines : (pieces : List (List ℕ)) → cutLines [] pieces ≡ map keptOf (linesOf (joined pieces))
+pieces-are-lines = C.cut-lines
+
+-- "a longer one is malformed up to its newline": what is kept of a line tells what the line tells
+long-malformed : (line : List ℕ) → 8301 < length line → toldOf line ≡ malformed
+unfolding toldOf toldAs
+long-malformed line h = ap (λ (k : ℕ). toldAs k line) (sym (kind-long line h))
+
+unended-malformed : (line : List ℕ) → (at line (length line - 1) ≡ 10 → ⊥) → toldOf line ≡ malformed
+unfolding toldOf toldAs
+unended-malformed line f = ap (λ (k : ℕ). toldAs k line) (sym (kind-unended line f))
+
+module _ (line : List ℕ) (last : NewlineLast line) where
+  kept-unended : 8301 < length line → at (keptOf line) (length (keptOf line) - 1) ≡ 10 → ⊥
+  kept-unended h e = clash (wholeOf (keptOf line)) (eq-eqb _ 10 e) (C.kept-long line last h)
+
+  pub kept-tells : toldOf (keptOf line) ≡ toldOf line
+  kept-tells =
+      below-or-not 8301 (length line)
+      (λ (h : 8301 < length line). unended-malformed (keptOf line) (kept-unended h) ∙ sym (long-malformed line h))
+      (λ (h : length line ≤ 8301). ap toldOf (C.kept-short line h))
+
+-- of a first line likewise: one that is too long is malformed, and so is what is kept of it
+long-first : (line : List ℕ) → 8301 < length line → firstRefusal line ≡ 13
+long-first line h =
+    sym (first-malformed line (not-both-ways (isLayout line) (λ (t : isLayout line ≡ true). let e = layout-length line t in absurd (omega (arith, e, h)))))
+
+unended-first : (line : List ℕ) → (at line (length line - 1) ≡ 10 → ⊥) → firstRefusal line ≡ 13
+unfolding isLayout
+unended-first line f =
+    sym (first-malformed line (not-both-ways (isLayout line) (λ (t : isLayout line ≡ true). f (fields-ended line 0 2 (2 ∷ 2 ∷ 4 ∷ 6 ∷ 16 ∷ []) t))))
+
+-- in each of these lines no newline stands but at its end
+abbrev Lines : List (List ℕ) → Type 0
+Lines ls = (k : ℕ) → NewlineLast (getD ls k [])
+
+kept-prints : (y : Layout) (R : Record) (img : List ℕ) (ls : List (List ℕ)) → Lines ls → replayPrints y R img (map keptOf ls) ≡ replayPrints y R img ls
+unfolding replayPrints
+kept-prints y R img [] h = refl
+kept-prints y R img (l ∷ ls) h =
+    let e = kept-tells l (h 0) in
+    (λ i. answerOf y R img (e i) ++ replayPrints y (playedRecord y R img (e i)) (playedImage y R img (e i)) (map keptOf ls))
+    ∙ ap (λ (prints : List ℕ). answerOf y R img (toldOf l) ++ prints)
+    (kept-prints y (playedRecord y R img (toldOf l)) (playedImage y R img (toldOf l)) ls (λ k. h (suc k)))
+
+refused-output : (first : List ℕ) (lines : List (List ℕ)) → firstRefusal first ≡ 13 → replayOutput (first ∷ lines) ≡ printed 13 []
+unfolding replayOutput
+refused-output first lines e =
+    ap (λ (n : ℕ). grant n (replayPrints (layoutAt first 0) (zeroPool (layoutAt first 0) .rec) (zeroPool (layoutAt first 0) .img) lines) (printed n [])) e
+
+kept-output : (ls : List (List ℕ)) → Lines ls → replayOutput (map keptOf ls) ≡ replayOutput ls
+unfolding replayOutput
+kept-output [] h = refl
+kept-output (l ∷ ls) h =
+    below-or-not 8301 (length l)
+    (λ (k : 8301 < length l).
+    refused-output (keptOf l) (map keptOf ls) (unended-first (keptOf l) (kept-unended l (h 0) k)) ∙ sym (refused-output l ls (long-first l k)))
+    (λ (k : length l ≤ 8301).
+    ap (λ (f : List ℕ). replayOutput (f ∷ map keptOf ls)) (C.kept-short l k)
+    ∙ ap (λ (prints : List ℕ). grant (firstRefusal l) prints (printed (firstRefusal l) []))
+    (kept-prints (layoutAt l 0) (zeroPool (layoutAt l 0) .rec) (zeroPool (layoutAt l 0) .img) ls (λ j. h (suc j))))
+
+-- the lines that are cut from a stream's pieces give the output of the stream
+pub program-prints : (pieces : List (List ℕ)) → replayOutput (cutLines [] pieces) ≡ replayOutput (linesOf (joined pieces))
+program-prints pieces = ap replayOutput (C.cut-lines pieces) ∙ kept-output (linesOf (joined pieces)) (lines-newline-last (joined pieces))

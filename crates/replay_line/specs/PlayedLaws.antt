@@ -2,8 +2,9 @@
 use mathlib.Core.Path.{_≡_, refl, sym, ap, _∙_, subst}
 use mathlib.Core.Bool.{true, false}
 use mathlib.Core.List.{List, [], _∷_}
-use Prim.Native.Nat.{ℕ}
-use lib.ListN.{length}
+use Prim.Native.Nat.{ℕ, zero, suc, _≤_}
+use native.Mathlib.Omega.{arith}
+use lib.ListN.{length, drop, length-append}
 use borrow.Author.Tests.{ne-eqb}
 use Rattle.lists.specs.Refusal.{_orElse_, refusalBy, grant}
 use Rattle.lists.specs.Tabulate.{zeros}
@@ -121,3 +122,19 @@ module _ (y : Layout) (R : Record) (img line old : List ℕ) where
         → Plays y R img line old x img′ new
     unfolding answerOf playedRecord playedImage
     plays-repair e p = plays-told h (told-repair line e) (p .0) (p .3) (p .1) (p .2)
+
+  -- ---- an answer lies within its buffer, which keeps its length
+
+  pub answer-fits : {x : Played} {img′ new : List ℕ} → Plays y R img line old x img′ new → length new ≡ length old → x .length ≤ length old
+  answer-fits {x} {img′} {new} p same =
+      grant-cases (playRefusal (length img) (length old)) (p .long) (p .text)
+    where
+      said : List ℕ
+      said = answerOf y R img (toldOf line)
+
+      grant-cases : (n : ℕ) → x .length ≡ grant n (length said) 0 → new ≡ grant n (laidFirst said old) (zeros (length old)) → x .length ≤ length old
+      grant-cases zero e f =
+          let g = ap length f in
+          let h = length-append said (drop (length said) old) in
+          omega (arith, e, g, h, same)
+      grant-cases (suc n) e f = omega (arith, e)

@@ -92,3 +92,13 @@ fields-length line a [] e = sym (eqb-true a (length line) e)
 fields-length line a (w ∷ ws) e =
     fields-length line (a + w + 1) ws
     (both-true (eqb (at line (a + w)) (separator ws)) (fieldsAt line (a + w + 1) ws) (both-true (digitsAt line a w) _ e .1) .1)
+
+-- and that it ends with a newline
+pub fields-ended : (line : List ℕ) (a w : ℕ) (ws : List ℕ) → fieldsAt line a (w ∷ ws) ≡ true → at line (length line - 1) ≡ 10
+unfolding fieldsAt
+fields-ended line a w [] e =
+    let b = both-true (eqb (at line (a + w)) 10) (eqb (a + w + 1) (length line)) (both-true (digitsAt line a w) _ e .1) in
+    let long = eqb-true (a + w + 1) (length line) (b .1) in
+    ap (at line) (let q : length line - 1 ≡ a + w = omega (arith, long) in q) ∙ eqb-true (at line (a + w)) 10 (b .0)
+fields-ended line a w (v ∷ vs) e =
+    fields-ended line (a + w + 1) v vs (both-true (eqb (at line (a + w)) 32) (fieldsAt line (a + w + 1) (v ∷ vs)) (both-true (digitsAt line a w) _ e .1) .1)

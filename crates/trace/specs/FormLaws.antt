@@ -3,17 +3,17 @@ use mathlib.Core.Path.{_≡_, refl, sym, ap, _∙_}
 use mathlib.Core.Logic.{⊎-elim}
 use mathlib.Core.Bool.{Bool, true, false}
 use mathlib.Core.List.{List, [], _∷_}
-use Prim.Native.Nat.{ℕ, _+_, _*_, _≤_, _<_}
+use Prim.Native.Nat.{ℕ, _+_, _*_, _-_, _≤_, _<_}
 use native.Mathlib.Omega.{arith}
 use lib.Dec.{leb, eqb}
 use lib.ListN.{length, List·getD-eq-default}
 use borrow.Author.Tests.{ne-eqb, eqb-true, lt-leb, le-leb, leb-true}
-use Rattle.lists.specs.Pick.{pick, pick-true, pick-false, both, both-true, both-off, either-way, equal-or-not, clash}
+use Rattle.lists.specs.Pick.{pick, pick-true, pick-false, both, both-true, both-off, either-way, clash, not-both-ways}
 use Rattle.lists.specs.Part.{within}
 use Rattle.lists.specs.Tabulate.{at}
 use Rattle.hex.specs.Digit.{digitValue, digitsAt, numberAt}
 use Rattle.trace.specs.Fields.{separator, fieldsAt}
-use Rattle.trace.specs.FieldLaws.{fields-length}
+use Rattle.trace.specs.FieldLaws.{fields-length, fields-ended}
 use Rattle.trace.specs.Forms.{byteCount, formOf, kindOf}
 
 -- ---- the fields of a kind
@@ -79,13 +79,14 @@ module _ (line : List ℕ) where
   empty-kind [] e = refl
   empty-kind (c ∷ l) e = absurd (omega (arith, e))
 
-  pub kind-short : length line < 3 → 0 ≡ kindOf line
+  -- a line that has no form of a kind
+  kind-none : ((ws : List ℕ) → fieldsAt line 0 (2 ∷ ws) ≡ false) → 0 ≡ kindOf line
   unfolding kindOf fieldsAt
-  kind-short h =
+  kind-none none =
       ⊎-elim
       (λ (t : formed line ≡ true).
       begins (byteCount line) (numberAt line 0 2) (λ (ws : List ℕ). fieldsAt line 0 ws ≡ true → 0 ≡ kindOf line)
-      (λ ws e. clash (fieldsAt line 0 (2 ∷ ws)) e (short-form h ws))
+      (λ ws e. clash (fieldsAt line 0 (2 ∷ ws)) e (none ws))
       (λ e. by (both (leb (length line) 8301) (formed line)) (empty-kind line (sym (eqb-true 0 (length line) e)))) t)
       (λ (t : formed line ≡ false).
       sym (pick-false (both (leb (length line) 8301) (formed line)) (numberAt line 0 2) 0
@@ -95,6 +96,14 @@ module _ (line : List ℕ) where
       by : (t : Bool) → numberAt line 0 2 ≡ 0 → 0 ≡ pick t (numberAt line 0 2) 0
       by true e = sym e
       by false e = refl
+
+  pub kind-short : length line < 3 → 0 ≡ kindOf line
+  kind-short h = kind-none (short-form h)
+
+  -- nor has one that does not end with a newline
+  pub kind-unended : (at line (length line - 1) ≡ 10 → ⊥) → 0 ≡ kindOf line
+  kind-unended f =
+      kind-none (λ ws. not-both-ways (fieldsAt line 0 (2 ∷ ws)) (λ (t : fieldsAt line 0 (2 ∷ ws) ≡ true). f (fields-ended line 0 2 ws t)))
 
   module _ (kind : ℕ) (e : kind ≡ numberAt line 0 2) where
     same : fieldsAt line 0 (formOf (byteCount line) kind) ≡ formed line
