@@ -1,74 +1,74 @@
--- `answers::spread_hex` meets its contract: before byte i the digits of the first i bytes stand there, and the bytes from the i-th on where they stood.
-use Prim.Native.Nat.{ℕ, _+_, _*_, _-_, _/_, _%_, _≤_}
-use mathlib.Core.Path.{_≡_, ap, _∙_}
+-- `answers::spread_hex` meets its contract: before byte i the digits of the first i bytes stand there; block by block, and then the rest.
+use Prim.Native.Nat.{_+_, _*_, _-_, _≤_}
+use mathlib.Core.Path.{_≡_, refl, _∙_}
 use borrow.Author.Needs.{needs}
 use native.Mathlib.Omega.{arith}
-use lib.ListN.{length-set}
 use Rattle.lists.specs.Span.{Span, span-none, span-to}
-use Rattle.hex.specs.Hex.{hexDigit}
 use Rattle.hex.specs.Runs.{unitFrom}
-use Rattle.hex.specs.RunLaws.{unit-turn}
+use Rattle.answers.specs.Spread.{spread-more}
 use Rattle.answers.proofs.spread_hex.Statement.{statement}
 use Rattle.answers.proofs.spread_hex.Tie as tie
 
 abbrev Inv-loop : tie.InvT-loop
-Inv-loop text₀ at size begins i₀ to₀ text i to = (i ≤ size) × (to ≡ at + 2 * i) × Span (unitFrom text₀ (at + size) at) at to text₀ text
+Inv-loop text₀ at size i₀ text i = (i ≤ size) × Span (unitFrom text₀ (at + size) at) at (at + 2 * i) text₀ text
 
 abbrev μ-loop : tie.MeasureT-loop
-μ-loop text₀ at size begins i₀ to₀ text i to = size - i
-
-add-begins : tie.Need-add-begins Inv-loop μ-loop
-add-begins c = search needs
+μ-loop text₀ at size i₀ text i = size - i
 
 loop-holds : tie.Need-loop-holds Inv-loop μ-loop
-loop-holds c = (omega arith, omega arith, span-none _ _ _ (omega arith))
+loop-holds c = (omega arith, span-none _ _ _ (omega arith))
 
-add-b : tie.Need-add-b Inv-loop μ-loop
-add-b c = search needs
+sub-loop : tie.Need-sub-loop Inv-loop μ-loop
+sub-loop c = search needs
 
-slice-read-b : tie.Need-slice-read-b Inv-loop μ-loop
-slice-read-b c = omega (arith, c .before .before .loop .inv .2 .len)
+add-spread-block : tie.Need-add-spread-block Inv-loop μ-loop
+add-spread-block c = search needs
 
-hex-digit-requires : tie.Need-hex-digit-requires Inv-loop μ-loop
-hex-digit-requires c κs = search needs
+add-spread-block-2 : tie.Need-add-spread-block-2 Inv-loop μ-loop
+add-spread-block-2 c = search needs
 
-slice-write-text : tie.Need-slice-write-text Inv-loop μ-loop
-slice-write-text c = omega (arith, c .before .before .before .loop .inv .2 .len)
+mul-spread-block : tie.Need-mul-spread-block Inv-loop μ-loop
+mul-spread-block c = search needs
 
-hex-digit-requires-2 : tie.Need-hex-digit-requires-2 Inv-loop μ-loop
-hex-digit-requires-2 c κs = search needs
+add-spread-block-3 : tie.Need-add-spread-block-3 Inv-loop μ-loop
+add-spread-block-3 c = search needs
 
-add-text : tie.Need-add-text Inv-loop μ-loop
-add-text c = search needs
-
-slice-write-text-2 : tie.Need-slice-write-text-2 Inv-loop μ-loop
-slice-write-text-2 c = omega (arith, c .before .before .before .before .loop .inv .2 .len, length-set (c .before .before .before .before .loop .text) (c .before .before .before .before .loop .to) (c .before .hex-digit .result))
+spread-block-requires : tie.Need-spread-block-requires Inv-loop μ-loop
+spread-block-requires c κs = let e = c .before .before .loop .inv .1 .len in (omega (arith, e), omega (arith, e))
 
 add-i : tie.Need-add-i Inv-loop μ-loop
 add-i c = search needs
-
-add-to : tie.Need-add-to Inv-loop μ-loop
-add-to c = search needs
 
 loop-less : tie.Need-loop-less Inv-loop μ-loop
 loop-less c = search needs
 
 loop-again : tie.Need-loop-again Inv-loop μ-loop
 loop-again c =
-    let i = c .before .before .before .before .loop in
-    let g = c .before .before .before .before .before .before .args in
-    let q = i .inv .1 in
-    let still = i .inv .2 .after (g .at + g .size + i .i) (omega (arith, q)) in (
-      omega arith,
-      omega (arith, q),
-      unit-turn (g .text .now) (g .at + g .size) _ _ _ q (omega (arith, i .inv .2 .len)) (c .before .hex-digit .ensures ∙ ap (λ (x : ℕ). hexDigit (x / 16 % 16)) still) (c .hex-digit2 .ensures ∙ ap (λ (x : ℕ). hexDigit (x % 16)) still) (i .inv .2),
-    )
+    let l = c .before .before .before .before .before .loop in
+    let a = c .before .before .before .before .before .before .before .args in
+    (omega arith, spread-more (a .text .now) (a .at) (a .at + a .size) (l .i) 64 (omega arith) refl refl refl (l .inv .1) (c .before .before .spread-block .ensures))
+
+mul-spread-bytes : tie.Need-mul-spread-bytes Inv-loop μ-loop
+mul-spread-bytes c = search needs
+
+add-spread-bytes : tie.Need-add-spread-bytes Inv-loop μ-loop
+add-spread-bytes c = search needs
+
+sub-spread-bytes : tie.Need-sub-spread-bytes Inv-loop μ-loop
+sub-spread-bytes c = search needs
+
+spread-bytes-requires : tie.Need-spread-bytes-requires Inv-loop μ-loop
+spread-bytes-requires c κs = let e = c .before .before .loop .inv .1 .len in omega (arith, e)
 
 same-length : tie.Need-same-length Inv-loop μ-loop
-same-length c = c .before .loop .inv .2 .len
+same-length c = c .before .before .spread-bytes .ensures .len ∙ c .before .before .before .before .before .loop .inv .1 .len
 
 returns : tie.Need-returns Inv-loop μ-loop
-returns c = span-to _ _ (let q = c .before .loop .inv .1 in omega (arith, q)) (c .before .loop .inv .2)
+returns c =
+    let l = c .before .before .before .before .before .loop in
+    let a = c .before .before .before .before .before .before .before .args in
+    span-to _ _ (let q : a .at + 2 * (l .i + (a .size - l .i)) ≡ a .at + 2 * a .size = omega arith in q)
+    (spread-more (a .text .now) (a .at) (a .at + a .size) (l .i) (a .size - l .i) (omega arith) (omega arith) refl refl (l .inv .1) (c .before .before .spread-bytes .ensures))
 
 pub spread-hex-spec : {M : Type 1} → statement M
 spread-hex-spec =
@@ -76,18 +76,19 @@ spread-hex-spec =
     (tie.spec
     Inv-loop
     μ-loop
-    add-begins
     loop-holds
-    add-b
-    slice-read-b
-    hex-digit-requires
-    slice-write-text
-    hex-digit-requires-2
-    add-text
-    slice-write-text-2
+    sub-loop
+    add-spread-block
+    add-spread-block-2
+    mul-spread-block
+    add-spread-block-3
+    spread-block-requires
     add-i
-    add-to
     loop-less
     loop-again
+    mul-spread-bytes
+    add-spread-bytes
+    sub-spread-bytes
+    spread-bytes-requires
     same-length
     returns)
