@@ -18,3 +18,4 @@ pub mod Replay
 pub mod Examples
 pub mod TextExamples
 pub mod ListExamples
+pub mod ReplayExamples

@@ -33,6 +33,7 @@ use Rattle.replay_line.specs.Play.{playedRecord, playedImage, answerOf, roomy, 
 use Rattle.line_cursor.specs.Lines.{linesOf, joined, wholeOf, keptOf, cutLines}
 use Rattle.line_cursor.specs.LineLaws.{NewlineLast, lines-newline-last}
 use Rattle.line_cursor.specs.CutLaws as C
+use Rattle.replay_line.specs.PlayedLaws.{answer-fits}
 use Rattle.promises.specs.Runs.{Event, write, fail, repair, read, State, start, step, run, laidOn}
 use Rattle.promises.specs.Demand3.{Right, demand-3, file-of-run}
 use Rattle.promises.specs.Tight.{same}
@@ -119,6 +120,10 @@ module _ (y : Layout) (R : Record) (img line old : List ℕ) where
           rec = p .rec ∙ grant-yes _ _ _ n;
           image = p .image ∙ grant-yes _ _ _ n;
         }
+
+    -- the answer lies within the buffer, which comes back as long as it was lent
+    pub answer-within : length new ≡ length old → x .length ≤ length old
+    answer-within = answer-fits y R img line old p
 
     -- a malformed line changes nothing, and prints 13
     pub malformed-changes-nothing : x .refusal ≡ 0 → toldOf line ≡ malformed

@@ -58,7 +58,9 @@ module _ (line widths : List ℕ) (n : ℕ) (room : n ≤ length widths) where
 
     pub field-cut : a ≤ length line → length line - a ≤ at widths i → false ≡ fieldsFrom line widths n i a
     field-cut b k =
-        sym (here ∙ ap (λ (t : Bool). both (digitsAt line a (at widths i)) (both t (fieldsFrom line widths n (i + 1) (a + at widths i + 1)))) (past-end line (a + at widths i) (eqb (i + 1) n) (omega arith))
+        sym (here
+        ∙ ap (λ (t : Bool). both (digitsAt line a (at widths i)) (both t (fieldsFrom line widths n (i + 1) (a + at widths i + 1))))
+        (past-end line (a + at widths i) (eqb (i + 1) n) (omega arith))
         ∙ both-off (digitsAt line a (at widths i)))
 
     pub field-wrong : digitsAt line a (at widths i) ≡ false → false ≡ fieldsFrom line widths n i a
