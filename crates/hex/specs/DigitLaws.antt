@@ -36,6 +36,18 @@ module _ (c : ℕ) where
       within-cases 48 10 c (λ h k. f h k)
       (λ (t : within 48 10 c ≡ false). let b = within-true 97 6 c (sym (pick-false (within 48 10 c) true (within 97 6 c) t) ∙ e) in g (b .0) (b .1))
 
+  -- a digit is below 128, and counts its low half, 9 more where it is a letter
+  pub digit-lt : isDigit c ≡ true → c < 128
+  digit-lt e = digit-cases e (λ h k. omega arith) (λ h k. omega arith)
+
+  pub digit-counts : isDigit c ≡ true → c % 16 + c / 64 * 9 ≡ digitValue c
+  digit-counts e =
+      let p = div-add-mod c 16 in
+      let l = mod-lt c (zero-lt-suc 15) in
+      let q = div-add-mod c 64 in
+      let m = mod-lt c (zero-lt-suc 63) in
+      digit-cases e (λ h k. let v = low-value h k in omega (arith, p, l, q, m, v)) (λ h k. let v = high-value h k in omega (arith, p, l, q, m, v))
+
   -- the value is below 16, and its digit is the one it came from
   pub value-lt : digitValue c < 16
   unfolding digitValue

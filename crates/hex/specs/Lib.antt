@@ -8,3 +8,5 @@ pub mod DigitLaws
 pub mod LineLaws
 pub mod RunLaws
 pub mod NumberLaws
+pub mod Tell
+pub mod TellLaws

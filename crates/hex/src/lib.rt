@@ -1,5 +1,6 @@
 // Hex digits and hex lines: a line written at a place of a text, and one that stands there tested and read back.
 ghost use mathlib.Core.Path.{_≡_};
+ghost use mathlib.Core.Bool.{true};
 ghost use Prim.Native.Nat.{_<_, _≤_, _+_, _*_};
 ghost use lib.Dec.{ltb};
 ghost use lib.ListN.{length};
@@ -9,6 +10,7 @@ ghost use Rattle.hex.specs.Hex.{hexDigit};
 ghost use Rattle.hex.specs.Digit.{digitsAt, numberAt};
 ghost use Rattle.hex.specs.Line.{lineRight};
 ghost use Rattle.hex.specs.Runs.{letterOr16, decimalOr, digitOr16, headOf, headFrom, headRight, unitFrom, digitsRight, lineFrom, bytesFrom};
+ghost use Rattle.hex.specs.Tell.{toldBy, Pairs};
 
 // The lower-case digit of a number below 16.
 pub fn hex_digit(x: u8) -> u8
@@ -145,12 +147,12 @@ pub fn is_digits(text: &[u8], from: usize, n: usize) -> bool
     ensures { λ r. ⌜ r ≡ digitsAt (now (text .entry)) from n ⌝ }
 {
     let mut i = 0;
-    let mut worst: u8 = 0;
+    let mut largest: u8 = 0;
     while i < n {
-        worst = larger(worst, digit_or_16(text[from + i]));
+        largest = larger(largest, digit_or_16(text[from + i]));
         i += 1;
     }
-    worst < 16
+    largest < 16
 }
 
 // The number that the n digits from `from` on tell; what is no digit counts 0.
@@ -166,6 +168,76 @@ pub fn number_at(text: &[u8], from: usize, n: usize) -> u64
         i += 1;
     }
     number
+}
+
+// ---- bytes that digits tell, where they are known to be digits
+
+// Two characters as one number, the first counting least: so the compiler loads them at once.
+fn pair_of(a: u8, b: u8) -> u16
+    ensures { λ r. ⌜ r ≡ a + b * 256 ⌝ }
+{
+    a as u16 + b as u16 * 256
+}
+
+// The byte that a pair of digits tells, without a test: a digit counts its low half, a letter (64 and more) 9 more than that.
+fn told_by(pair: u16) -> u8
+    ensures { λ r. ⌜ r ≡ toldBy pair ⌝ }
+{
+    let a = pair % 256;
+    let b = pair / 256;
+    (((a % 16 + a / 64 * 9) * 16 + (b % 16 + b / 64 * 9)) % 256) as u8
+}
+
+fn pairs_at(text: &[u8], from: usize) -> [u16; 32]
+    requires { ⌜ from + 64 ≤ length (now text) ⌝ }
+    ensures { λ r. ⌜ Pairs (now (text .entry)) from r ⌝ }
+{
+    let mut pairs = [0u16; 32];
+    let mut o = 0;
+    while o < 32 {
+        let at = from + 2 * o;
+        pairs[o] = pair_of(text[at], text[at + 1]);
+        o += 1;
+    }
+    pairs
+}
+
+// 32 bytes, by a copy in pairs: characters taken one by one from every second place are no work for the vectors of the oldest processors.
+fn tell_block(text: &[u8], from: usize, image: &mut [u8], begins: usize)
+    requires { ⌜ (from + 64 ≤ length (now text)) × (begins + 32 ≤ length (now image)) × (digitsAt (now text) from 64 ≡ true) ⌝ }
+    ensures { λ _. ⌜ Span (bytesFrom (now (text .entry)) from begins) begins (begins + 32) (now (image .entry)) (now (image .exit)) ⌝ }
+{
+    let pairs = pairs_at(text, from);
+    let mut o = 0;
+    while o < 32 {
+        image[begins + o] = told_by(pairs[o]);
+        o += 1;
+    }
+}
+
+fn tell_rest(text: &[u8], from: usize, image: &mut [u8], begins: usize, u: usize)
+    requires { ⌜ (from + 2 * u ≤ length (now text)) × (begins + u ≤ length (now image)) × (digitsAt (now text) from (2 * u) ≡ true) ⌝ }
+    ensures { λ _. ⌜ Span (bytesFrom (now (text .entry)) from begins) begins (begins + u) (now (image .entry)) (now (image .exit)) ⌝ }
+{
+    let mut o = 0;
+    while o < u {
+        let at = from + 2 * o;
+        image[begins + o] = told_by(pair_of(text[at], text[at + 1]));
+        o += 1;
+    }
+}
+
+// The bytes that the 2u digits from `from` on tell go to the image from `begins` on.
+pub fn tell_bytes(text: &[u8], from: usize, image: &mut [u8], begins: usize, u: usize)
+    requires { ⌜ (from + 2 * u ≤ length (now text)) × (begins + u ≤ length (now image)) × (digitsAt (now text) from (2 * u) ≡ true) ⌝ }
+    ensures { λ _. ⌜ Span (bytesFrom (now (text .entry)) from begins) begins (begins + u) (now (image .entry)) (now (image .exit)) ⌝ }
+{
+    let mut o = 0;
+    while 32 <= u - o {
+        tell_block(text, from + 2 * o, image, begins + o);
+        o += 32;
+    }
+    tell_rest(text, from + 2 * o, image, begins + o, u - o);
 }
 
 // ---- a line read
@@ -186,7 +258,7 @@ fn head_right(text: &[u8], at: usize, target: u64, frame: u64) -> bool
 
 // Whether the 2u characters from `from` on are digits; what they tell goes to the u bytes of the image from `begins` on. The loop has no way
 // out, so that it runs on vectors: the largest of all values says in the end whether all were digits. What is no digit is stored as 0.
-pub fn read_unit(text: &[u8], from: usize, image: &mut [u8], begins: usize, u: usize) -> bool
+fn read_unit(text: &[u8], from: usize, image: &mut [u8], begins: usize, u: usize) -> bool
     requires { ⌜ (from + 2 * u ≤ length (now text)) × (begins + u ≤ length (now image)) ⌝ }
     ensures { λ r. ⌜ (r ≡ digitsRight (now (text .entry)) from u) × Span (bytesFrom (now (text .entry)) from begins) begins (begins + u) (now (image .entry)) (now (image .exit)) ⌝ }
 {

@@ -139,7 +139,7 @@ fn play_write(y: Layout, r: Record, image: &mut [u8], line: &[u8], answer: &mut 
 {
     let mut bytes = [0u8; 4140];
     let count = trace::byte_count(line);
-    hex::read_unit(line, 20, &mut bytes, 0, count);
+    hex::tell_bytes(line, 20, &mut bytes, 0, count);
     let offset = hex::number_at(line, 3, 16);
     let number = pool_write::write(y, r, image, offset, &bytes[..count]);
     say(number, answer)

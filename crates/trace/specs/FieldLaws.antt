@@ -95,6 +95,13 @@ fields-length line a (w ∷ ws) e =
     fields-length line (a + w + 1) ws
     (both-true (eqb (at line (a + w)) (separator ws)) (fieldsAt line (a + w + 1) ws) (both-true (digitsAt line a w) _ e .1) .1)
 
+-- and of the first field that it has digits, with the others after it
+pub fields-first : (line : List ℕ) (a w : ℕ) (ws : List ℕ) → fieldsAt line a (w ∷ ws) ≡ true → (digitsAt line a w ≡ true) × (fieldsAt line (a + w + 1) ws ≡ true)
+unfolding fieldsAt
+fields-first line a w ws e =
+    let b = both-true (digitsAt line a w) (both (eqb (at line (a + w)) (separator ws)) (fieldsAt line (a + w + 1) ws)) e in
+    (b .0, both-true (eqb (at line (a + w)) (separator ws)) (fieldsAt line (a + w + 1) ws) (b .1) .1)
+
 -- and that it ends with a newline
 pub fields-ended : (line : List ℕ) (a w : ℕ) (ws : List ℕ) → fieldsAt line a (w ∷ ws) ≡ true → at line (length line - 1) ≡ 10
 unfolding fieldsAt

@@ -13,7 +13,7 @@ use Rattle.lists.specs.Part.{within}
 use Rattle.lists.specs.Tabulate.{at}
 use Rattle.hex.specs.Digit.{digitValue, digitsAt, numberAt}
 use Rattle.trace.specs.Fields.{separator, fieldsAt}
-use Rattle.trace.specs.FieldLaws.{fields-length, fields-ended}
+use Rattle.trace.specs.FieldLaws.{fields-length, fields-first, fields-ended}
 use Rattle.trace.specs.Forms.{byteCount, formOf, kindOf}
 
 -- ---- the fields of a kind
@@ -154,6 +154,13 @@ module _ (line : List ℕ) where
       let k = of-kind 1 e (omega arith) in
       let l = fields-length line 0 (2 ∷ 16 ∷ 2 * byteCount line ∷ []) (long-as 1 _ k (form-write (byteCount line) 1 refl)) in
       (omega (arith, l), k .few)
+
+  -- the bytes to write are told by digits
+  pub write-digits : kindOf line ≡ 1 → digitsAt line 20 (2 * byteCount line) ≡ true
+  write-digits e =
+      let last = 2 * byteCount line ∷ [] in
+      let fields = long-as 1 (2 ∷ 16 ∷ last) (of-kind 1 e (omega arith)) (form-write (byteCount line) 1 refl) in
+      fields-first line 20 (2 * byteCount line) [] (fields-first line 3 16 last (fields-first line 0 2 (16 ∷ last) fields .1) .1) .0
 
   pub fail-length : kindOf line ≡ 2 → length line ≡ 6
   fail-length e = fields-length line 0 (2 ∷ 2 ∷ []) (long-as 2 _ (of-kind 2 e (omega arith)) (form-fail (byteCount line) 2 refl))

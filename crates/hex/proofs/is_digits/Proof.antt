@@ -10,10 +10,10 @@ use Rattle.hex.proofs.is_digits.Statement.{statement}
 use Rattle.hex.proofs.is_digits.Tie as tie
 
 abbrev Inv-loop : tie.InvT-loop
-Inv-loop text from n i₀ worst₀ i worst = (i ≤ n) × (ltb worst 16 ≡ digitsAt text from i)
+Inv-loop text from n i₀ largest₀ i largest = (i ≤ n) × (ltb largest 16 ≡ digitsAt text from i)
 
 abbrev μ-loop : tie.MeasureT-loop
-μ-loop text from n i₀ worst₀ i worst = n - i
+μ-loop text from n i₀ largest₀ i largest = n - i
 
 loop-holds : tie.Need-loop-holds Inv-loop μ-loop
 loop-holds c = (omega arith, no-digits (c .before .args .text .now) (c .before .args .from))
@@ -40,7 +40,7 @@ loop-again : tie.Need-loop-again Inv-loop μ-loop
 loop-again c =
     let i = c .before .before .before .before .loop in
     let a = c .before .before .before .before .before .before .args in
-    (omega arith, digit-turn (a .text .now) (a .from) (i .i) (i .worst) (c .before .digit-or-16 .ensures) (c .larger .ensures) (i .inv .1))
+    (omega arith, digit-turn (a .text .now) (a .from) (i .i) (i .largest) (c .before .digit-or-16 .ensures) (c .larger .ensures) (i .inv .1))
 
 returns : tie.Need-returns Inv-loop μ-loop
 returns c = c .before .loop .inv .1 ∙ ap (digitsAt (c .before .before .before .args .text .now) (c .before .before .before .args .from)) (omega arith)
