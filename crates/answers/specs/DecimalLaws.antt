@@ -3,14 +3,14 @@ use mathlib.Core.Path.{_≡_, refl, sym, ap, _∙_, subst}
 use mathlib.Core.Logic.{⊎-elim}
 use mathlib.Core.Bool.{Bool, true, false}
 use mathlib.Core.List.{List}
-use Prim.Native.Nat.{ℕ, zero, suc, _+_, _-_, _/_, _%_, _≤_, _<_}
+use Prim.Native.Nat.{ℕ, suc, _+_, _-_, _/_, _%_, _≤_, _<_}
 use native.Mathlib.Omega.{arith}
 use lib.Dec.{ltb}
 use lib.ListN.{length, set, length-set}
 use lib.Seq.{getD-set-same, getD-set-other}
 use borrow.Author.Tests.{lt-ltb, le-ltb}
-use Rattle.lists.specs.Pick.{either-way, equal-or-not, below-or-not}
-use Rattle.lists.specs.Search.{any, any-false, lowest, lowest-at, lowest-is, lowest-none}
+use Rattle.lists.specs.Pick.{either-way, equal-or-not}
+use Rattle.lists.specs.Search.{any, any-false, lowest-at, lowest-is, lowest-none}
 use Rattle.lists.specs.Span.{Span, span-cong, span-to}
 use Rattle.lists.specs.Tabulate.{at, length-tabulate, getD-tabulate}
 use Rattle.answers.specs.Decimal.{tenths, places, decimal}

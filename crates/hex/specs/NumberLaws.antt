@@ -1,5 +1,5 @@
 -- Digits and numbers as the code's loops read them: what each turn adds, and that no number of 16 digits is too large.
-use mathlib.Core.Path.{_≡_, refl, sym, ap, ap₂, _∙_}
+use mathlib.Core.Path.{_≡_, refl, ap, ap₂, _∙_}
 use mathlib.Core.Bool.{true}
 use mathlib.Core.List.{List}
 use Prim.Native.Nat.{ℕ, zero, suc, _+_, _*_, _^_, _%_, _≤_, _<_}
@@ -9,7 +9,7 @@ use lib.Dec.{ltb}
 use Rattle.lists.specs.Pick.{pick, both}
 use Rattle.lists.specs.Search.{all}
 use Rattle.lists.specs.Tabulate.{at}
-use Rattle.hex.specs.Digit.{digitValue, digitsAt, numberAt}
+use Rattle.hex.specs.Digit.{digitsAt, numberAt}
 use Rattle.hex.specs.DigitLaws.{value-lt}
 use Rattle.hex.specs.Runs.{digitOr16}
 use Rattle.hex.specs.RunLaws.{digit-says, digit-low, larger-below}

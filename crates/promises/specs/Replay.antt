@@ -3,7 +3,7 @@
 use mathlib.Core.Path.{_≡_, refl, sym, ap, _∙_, subst, subst⁻¹}
 use mathlib.Core.Bool.{Bool, true}
 use mathlib.Core.List.{List, [], _∷_, _++_, map}
-use Prim.Native.Nat.{ℕ, zero, suc, _+_, _*_, _-_, _≤_, _<_}
+use Prim.Native.Nat.{ℕ, zero, suc, _+_, _-_, _≤_, _<_}
 use native.Mathlib.Omega.{arith}
 use lib.ListN.{length, getD, take, drop}
 use lib.Seq.{take-at, drop-at}
@@ -29,7 +29,7 @@ use Rattle.replay_line.specs.declared.FirstLine.{FirstLine}
 use Rattle.replay_line.specs.declared.Played.{Played}
 use Rattle.replay_line.specs.First.{firstTests, firstRefusal, noLayout, firstOf}
 use Rattle.replay_line.specs.FirstLaws.{layout-length, first-malformed, first-asked}
-use Rattle.replay_line.specs.Play.{playedRecord, playedImage, answerOf, roomy, playRefusal, laidFirst, Plays}
+use Rattle.replay_line.specs.Play.{playedRecord, playedImage, answerOf, roomy, playRefusal, Plays}
 use Rattle.line_cursor.specs.Lines.{linesOf, joined, wholeOf, keptOf, cutLines}
 use Rattle.line_cursor.specs.LineLaws.{NewlineLast, lines-newline-last}
 use Rattle.line_cursor.specs.CutLaws as C

@@ -1,5 +1,5 @@
 -- What the code's parts have done is what the line tells.
-use mathlib.Core.Path.{_≡_, refl, sym, ap, _∙_, subst}
+use mathlib.Core.Path.{_≡_, sym, ap, _∙_, subst}
 use mathlib.Core.List.{List, [], _∷_}
 use Prim.Native.Nat.{ℕ, _+_, _*_, _≤_, _<_}
 use native.Mathlib.Nat.{mul-le-mul-left, mul-le-mul-right, mul-comm, mul-assoc}
@@ -21,7 +21,7 @@ use Rattle.pool.specs.Refusals.{rangeRefusal, failRefusal, repairRefusal}
 use Rattle.pool.specs.Reading.{readOut}
 use Rattle.pool.specs.Writing.{writeImage}
 use Rattle.pool.specs.Failing.{failRecord}
-use Rattle.pool.specs.Repairing.{repairImage, repairRecord, repairCount}
+use Rattle.pool.specs.Repairing.{repairCount}
 use Rattle.pool.specs.Calls.{Writes, Fails, Repairs}
 use Rattle.trace.specs.Forms.{byteCount, bytesOf}
 use Rattle.answers.specs.Decimal.{decimal, printed}

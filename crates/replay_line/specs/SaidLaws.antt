@@ -6,7 +6,7 @@ use native.Mathlib.Omega.{arith}
 use lib.ListN.{length, set, take, drop, length-append, length-set, length-drop, List·getD-append}
 use lib.Seq.{length-take-le, getD-take, getD-drop, getD-append-add}
 use Rattle.lists.specs.Digits.{div-below}
-use Rattle.lists.specs.Refusal.{grant, grant-no, grant-either}
+use Rattle.lists.specs.Refusal.{grant-no, grant-either}
 use Rattle.lists.specs.Search.{any, lowest}
 use Rattle.lists.specs.Span.{Span, span-cong, span-to}
 use Rattle.lists.specs.Tabulate.{at, tabulate, zeros, length-tabulate, getD-tabulate}

@@ -1,8 +1,7 @@
 -- `replay::take_all` is safe: each line ends in the piece, after its beginning, so the loop ends.
-use Prim.Native.Nat.{_-_, _≤_, _<_}
-use mathlib.Core.Path.{_≡_, refl, sym, _∙_, subst}
+use Prim.Native.Nat.{_-_, _≤_}
+use mathlib.Core.Path.{_≡_, refl, _∙_}
 use native.Mathlib.Omega.{arith}
-use borrow.Author.Needs.{needs}
 use lib.ListN.{length}
 use Rattle.line_cursor.specs.CursorLaws.{end-le, end-more}
 use Rattle.replay.proofs.take_all.Statement.{statement}

@@ -1,5 +1,4 @@
 -- `replay_line::say` meets its contract: the digits, and the newline after them.
-use mathlib.Core.Path.{_≡_, refl, sym, ap, _∙_}
 use borrow.Author.Needs.{needs}
 use native.Mathlib.Omega.{arith}
 use Rattle.answers.specs.DecimalLaws.{decimal-length, places-few}

@@ -1,9 +1,8 @@
 -- `replay_line::say_bytes` meets its contract: a digit and a space, the digits of the bytes that were read, and the newline.
-use mathlib.Core.Path.{_≡_, refl, sym, ap, _∙_}
+use mathlib.Core.Path.{_∙_}
 use borrow.Author.Needs.{needs}
 use native.Mathlib.Omega.{arith}
-use Prim.Native.Nat.{_+_}
-use lib.ListN.{length, length-set, set}
+use lib.ListN.{length-set, set}
 use Rattle.replay_line.specs.SaidLaws.{placed-long, bytes-said}
 use Rattle.replay_line.proofs.say_bytes.Statement.{statement}
 use Rattle.replay_line.proofs.say_bytes.Tie as tie

@@ -1,5 +1,5 @@
 -- `replay_line::say_count` meets its contract: a digit and a space, the digits of the count, and the newline.
-use mathlib.Core.Path.{_≡_, refl, sym, ap, _∙_}
+use mathlib.Core.Path.{_∙_}
 use borrow.Author.Needs.{needs}
 use native.Mathlib.Omega.{arith}
 use lib.ListN.{length-set, set}
