@@ -37,8 +37,13 @@ impl Draws {
         self.below(n) == 0
     }
 
+    /// A place among `n`, which is at least 1.
+    pub fn place(&mut self, n: usize) -> usize {
+        self.below(n as u64) as usize
+    }
+
     pub fn pick<T: Copy>(&mut self, among: &[T]) -> T {
-        among[self.below(among.len() as u64) as usize]
+        among[self.place(among.len())]
     }
 
     pub fn fill(&mut self, bytes: &mut [u8]) {
@@ -105,7 +110,7 @@ impl Draws {
             1 => right.saturating_sub(1),
             2 => right + 1,
             3 => 2 * right + 100,
-            _ => self.below(2 * right as u64 + 2) as usize,
+            _ => self.place(2 * right + 2),
         }
     }
 }

@@ -2,6 +2,9 @@
 //! documents alone. The answers are compared line by line. docs/TESTING.md tells what it shows.
 
 mod damages;
+// The differential test's generator, which draws kinds of numbers too that no trace has.
+#[allow(dead_code)]
+#[path = "../../differential/src/draws.rs"]
 mod draws;
 mod fixed;
 mod program;

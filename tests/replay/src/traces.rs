@@ -73,7 +73,7 @@ fn line(draws: &mut Draws, shape: &Layout) -> Vec<u8> {
 
 fn some_bytes(draws: &mut Draws, limit: u64) -> Vec<u8> {
     let length = draws.below(limit);
-    draws.bytes(length)
+    draws.bytes(length as usize)
 }
 
 /// Mostly inside the file; one in ten may end past it.
@@ -96,7 +96,7 @@ fn range(draws: &mut Draws, capacity: u64) -> (u64, u64) {
 
 fn write(draws: &mut Draws, shape: &Layout) -> Event {
     let (offset, length) = range(draws, shape.derived().capacity);
-    Event::Write { offset, bytes: draws.bytes(length) }
+    Event::Write { offset, bytes: draws.bytes(length as usize) }
 }
 
 fn read(draws: &mut Draws, shape: &Layout) -> Event {
@@ -108,7 +108,7 @@ fn read(draws: &mut Draws, shape: &Layout) -> Event {
 fn long_write(draws: &mut Draws, shape: &Layout) -> Event {
     let length = draws.between(4137, 4143);
     let offset = draws.below(shape.derived().capacity.saturating_sub(length) + 1);
-    Event::Write { offset, bytes: draws.bytes(length) }
+    Event::Write { offset, bytes: draws.bytes(length as usize) }
 }
 
 /// Offset and length that no file has, also such that their sum wraps to a small number.
