@@ -20,8 +20,8 @@ use Rattle.pool.specs.Files.{part}
 use Rattle.pool.specs.Calls.{Reads, Writes, Fails, Repairs}
 use Rattle.trace.specs.FieldLaws.{fields-ended}
 use Rattle.trace.specs.Forms.{isLayout, layoutAt}
-use Rattle.trace.specs.FormLaws.{kind-long, kind-unended}
-use Rattle.trace.specs.Told.{Told, malformed, toldWrite, toldFail, toldRepair, toldRead, toldAs, toldOf}
+use Rattle.trace.specs.Told.{Told, malformed, toldWrite, toldFail, toldRepair, toldRead, toldOf}
+use Rattle.trace.specs.ToldLaws.{told-long, told-unended}
 use Rattle.trace.specs.Written.{lineOf, Tellable}
 use Rattle.trace.specs.WrittenLaws as W
 use Rattle.answers.specs.Decimal.{decimal, printed}
@@ -279,14 +279,6 @@ pub pieces-are-lines : (pieces : List (List ℕ)) → cutLines [] pieces ≡ map
 pieces-are-lines = C.cut-lines
 
 -- "a longer one is malformed up to its newline": what is kept of a line tells what the line tells
-long-malformed : (line : List ℕ) → 8301 < length line → toldOf line ≡ malformed
-unfolding toldOf toldAs
-long-malformed line h = ap (λ (k : ℕ). toldAs k line) (sym (kind-long line h))
-
-unended-malformed : (line : List ℕ) → (at line (length line - 1) ≡ 10 → ⊥) → toldOf line ≡ malformed
-unfolding toldOf toldAs
-unended-malformed line f = ap (λ (k : ℕ). toldAs k line) (sym (kind-unended line f))
-
 module _ (line : List ℕ) (last : NewlineLast line) where
   kept-unended : 8301 < length line → at (keptOf line) (length (keptOf line) - 1) ≡ 10 → ⊥
   kept-unended h e = clash (wholeOf (keptOf line)) (eq-eqb _ 10 e) (C.kept-long line last h)
@@ -294,7 +286,7 @@ module _ (line : List ℕ) (last : NewlineLast line) where
   pub kept-tells : toldOf (keptOf line) ≡ toldOf line
   kept-tells =
       below-or-not 8301 (length line)
-      (λ (h : 8301 < length line). unended-malformed (keptOf line) (kept-unended h) ∙ sym (long-malformed line h))
+      (λ (h : 8301 < length line). told-unended (keptOf line) (kept-unended h) ∙ sym (told-long line h))
       (λ (h : length line ≤ 8301). ap toldOf (C.kept-short line h))
 
 -- of a first line likewise: one that is too long is malformed, and so is what is kept of it

@@ -69,18 +69,19 @@ use Rattle.promises.specs.Replay.{replayPrints, replayOutput}
 
 abbrev trace : List ℕ
 trace =
-    48 ∷ 49 ∷ 32 ∷ 48 ∷ 49 ∷ 32 ∷ 48 ∷ 51 ∷ 32 ∷ 48 ∷ 48 ∷ 48 ∷ 50 ∷ 32 ∷ 48 ∷ 48 ∷ 48 ∷ 48 ∷ 48 ∷ 49 ∷ 32 ∷ 48 ∷ 48 ∷ 48 ∷ 48 ∷ 48 ∷ 48 ∷ 48 ∷ 48 ∷
-    48 ∷ 48 ∷ 48 ∷ 48 ∷ 48 ∷ 48 ∷ 48 ∷ 48 ∷ 10 ∷ 48 ∷ 49 ∷ 32 ∷ 48 ∷ 48 ∷ 48 ∷ 48 ∷ 48 ∷ 48 ∷ 48 ∷ 48 ∷ 48 ∷ 48 ∷ 48 ∷ 48 ∷ 48 ∷ 48 ∷ 48 ∷ 48 ∷ 32 ∷
-    52 ∷ 49 ∷ 52 ∷ 50 ∷ 10 ∷ 48 ∷ 52 ∷ 32 ∷ 48 ∷ 48 ∷ 48 ∷ 48 ∷ 48 ∷ 48 ∷ 48 ∷ 48 ∷ 48 ∷ 48 ∷ 48 ∷ 48 ∷ 48 ∷ 48 ∷ 48 ∷ 48 ∷ 32 ∷ 48 ∷ 48 ∷ 48 ∷ 48 ∷
-    48 ∷ 48 ∷ 48 ∷ 48 ∷ 48 ∷ 48 ∷ 48 ∷ 48 ∷ 48 ∷ 48 ∷ 48 ∷ 50 ∷ 10 ∷ 48 ∷ 50 ∷ 32 ∷ 48 ∷ 49 ∷ 10 ∷ 48 ∷ 52 ∷ 32 ∷ 48 ∷ 48 ∷ 48 ∷ 48 ∷ 48 ∷ 48 ∷ 48 ∷
-    48 ∷ 48 ∷ 48 ∷ 48 ∷ 48 ∷ 48 ∷ 48 ∷ 48 ∷ 48 ∷ 32 ∷ 48 ∷ 48 ∷ 48 ∷ 48 ∷ 48 ∷ 48 ∷ 48 ∷ 48 ∷ 48 ∷ 48 ∷ 48 ∷ 48 ∷ 48 ∷ 48 ∷ 48 ∷ 50 ∷ 10 ∷ 48 ∷ 51 ∷
-    10 ∷ 48 ∷ 51 ∷ 32 ∷ 10 ∷ 48 ∷ 50 ∷ 32 ∷ 48 ∷ 50 ∷ 10 ∷ 48 ∷ 52 ∷ 32 ∷ 48 ∷ 48 ∷ 48 ∷ 48 ∷ 48 ∷ 48 ∷ 48 ∷ 48 ∷ 48 ∷ 48 ∷ 48 ∷ 48 ∷ 48 ∷ 48 ∷ 48 ∷
-    49 ∷ 32 ∷ 48 ∷ 48 ∷ 48 ∷ 48 ∷ 48 ∷ 48 ∷ 48 ∷ 48 ∷ 48 ∷ 48 ∷ 48 ∷ 48 ∷ 48 ∷ 48 ∷ 48 ∷ 49 ∷ 10 ∷ []
+    48 ∷ 49 ∷ 32 ∷ 48 ∷ 49 ∷ 32 ∷ 48 ∷ 51 ∷ 32 ∷ 48 ∷ 48 ∷ 48 ∷ 50 ∷ 32 ∷ 48 ∷ 48 ∷ 48 ∷ 48 ∷ 48 ∷ 49 ∷ 32 ∷ 48 ∷ 48 ∷ 48 ∷ 48 ∷ 48 ∷
+    48 ∷ 48 ∷ 48 ∷ 48 ∷ 48 ∷ 48 ∷ 48 ∷ 48 ∷ 48 ∷ 48 ∷ 48 ∷ 10 ∷ 48 ∷ 49 ∷ 32 ∷ 48 ∷ 48 ∷ 48 ∷ 48 ∷ 48 ∷ 48 ∷ 48 ∷ 48 ∷ 48 ∷ 48 ∷ 48 ∷
+    48 ∷ 48 ∷ 48 ∷ 48 ∷ 48 ∷ 32 ∷ 52 ∷ 49 ∷ 52 ∷ 50 ∷ 10 ∷ 48 ∷ 52 ∷ 32 ∷ 48 ∷ 48 ∷ 48 ∷ 48 ∷ 48 ∷ 48 ∷ 48 ∷ 48 ∷ 48 ∷ 48 ∷ 48 ∷ 48 ∷
+    48 ∷ 48 ∷ 48 ∷ 48 ∷ 32 ∷ 48 ∷ 48 ∷ 48 ∷ 48 ∷ 48 ∷ 48 ∷ 48 ∷ 48 ∷ 48 ∷ 48 ∷ 48 ∷ 48 ∷ 48 ∷ 48 ∷ 48 ∷ 50 ∷ 10 ∷ 48 ∷ 50 ∷ 32 ∷ 48 ∷
+    49 ∷ 10 ∷ 48 ∷ 52 ∷ 32 ∷ 48 ∷ 48 ∷ 48 ∷ 48 ∷ 48 ∷ 48 ∷ 48 ∷ 48 ∷ 48 ∷ 48 ∷ 48 ∷ 48 ∷ 48 ∷ 48 ∷ 48 ∷ 48 ∷ 32 ∷ 48 ∷ 48 ∷ 48 ∷ 48 ∷
+    48 ∷ 48 ∷ 48 ∷ 48 ∷ 48 ∷ 48 ∷ 48 ∷ 48 ∷ 48 ∷ 48 ∷ 48 ∷ 50 ∷ 10 ∷ 48 ∷ 51 ∷ 10 ∷ 48 ∷ 51 ∷ 32 ∷ 10 ∷ 48 ∷ 50 ∷ 32 ∷ 48 ∷ 50 ∷ 10 ∷
+    48 ∷ 52 ∷ 32 ∷ 48 ∷ 48 ∷ 48 ∷ 48 ∷ 48 ∷ 48 ∷ 48 ∷ 48 ∷ 48 ∷ 48 ∷ 48 ∷ 48 ∷ 48 ∷ 48 ∷ 48 ∷ 49 ∷ 32 ∷ 48 ∷ 48 ∷ 48 ∷ 48 ∷ 48 ∷ 48 ∷
+    48 ∷ 48 ∷ 48 ∷ 48 ∷ 48 ∷ 48 ∷ 48 ∷ 48 ∷ 48 ∷ 49 ∷ 10 ∷ []
 
 abbrev output : List ℕ
 output =
-    48 ∷ 10 ∷ 48 ∷ 32 ∷ 52 ∷ 49 ∷ 52 ∷ 50 ∷ 10 ∷ 48 ∷ 10 ∷ 48 ∷ 32 ∷ 52 ∷ 49 ∷ 52 ∷ 50 ∷ 10 ∷ 48 ∷ 32 ∷ 49 ∷ 10 ∷ 49 ∷ 51 ∷ 10 ∷ 55 ∷ 10 ∷ 48 ∷ 32 ∷
-    52 ∷ 50 ∷ 10 ∷ []
+    48 ∷ 10 ∷ 48 ∷ 32 ∷ 52 ∷ 49 ∷ 52 ∷ 50 ∷ 10 ∷ 48 ∷ 10 ∷ 48 ∷ 32 ∷ 52 ∷ 49 ∷ 52 ∷ 50 ∷ 10 ∷ 48 ∷ 32 ∷ 49 ∷ 10 ∷ 49 ∷ 51 ∷ 10 ∷ 55 ∷
+    10 ∷ 48 ∷ 32 ∷ 52 ∷ 50 ∷ 10 ∷ []
 
 pub whole-trace : replayOutput (linesOf trace) ≡ output
 unfolding tabulate any all lowest within count sum those _orElse_ refusalBy gcd gcdIn lcm block rows groups validb startOf nextOf drawOf own exchange shuffleOf permutationOf indexOf inverseOf frameOf targetOf groupAt unitAt placeOf unitOf groupOf unitIn byteIn offsetOf spotOf targetHere frameHere offsetHere unitHere _⊕_ mul mulDigits double scale inv powerDigits div sumTo coef cof det row num inverse sol systemEntry parityOf content left known dataOf rebuilt listed free move homes recordGood home missing hexDigit stored contentByte fileByte rangeRefusal failRefusal repairRefusal readOut owner cellAfter storing touched writes laid writeImage failRecord repairImage repairRecord repairCount start isDigit digitValue hexOf numberAt fieldsAt isLayout layoutAt formOf kindOf bytesOf toldAs toldOf tenths places decimal printed linesOf firstRefusal playedRecord playedImage answerOf replayPrints replayOutput

@@ -37,12 +37,14 @@ module _ (line : List ℕ) where
     pub first-large : {m : ℕ} → Valid y → m ≡ imageLength y → 32768 < m → 13 ≡ firstRefusal line
     unfolding firstRefusal refusalBy _orElse_
     first-large v q h =
-        simp (t, valid-true (layoutAt line 0) (subst Valid e v), lt-leb (imageLength (layoutAt line 0)) 32768 (subst (λ (z : Layout). 32768 < imageLength z) e (subst (λ (k : ℕ). 32768 < k) q h)))
+        let many = subst (λ (z : Layout). 32768 < imageLength z) e (subst (λ (k : ℕ). 32768 < k) q h) in
+        simp (t, valid-true (layoutAt line 0) (subst Valid e v), lt-leb (imageLength (layoutAt line 0)) 32768 many)
 
     pub first-good : {m : ℕ} → Valid y → m ≡ imageLength y → m ≤ 32768 → 0 ≡ firstRefusal line
     unfolding firstRefusal refusalBy _orElse_
     first-good v q h =
-        simp (t, valid-true (layoutAt line 0) (subst Valid e v), le-leb (imageLength (layoutAt line 0)) 32768 (subst (λ (z : Layout). imageLength z ≤ 32768) e (subst (λ (k : ℕ). k ≤ 32768) q h)))
+        let few = subst (λ (z : Layout). imageLength z ≤ 32768) e (subst (λ (k : ℕ). k ≤ 32768) q h) in
+        simp (t, valid-true (layoutAt line 0) (subst Valid e v), le-leb (imageLength (layoutAt line 0)) 32768 few)
 
   -- what is known of an accepted line
   pub record FirstAsked : Type 0 where

@@ -5,7 +5,6 @@ use mathlib.Core.List.{List, [], _∷_}
 use Prim.Native.Nat.{ℕ, zero, suc, _≤_}
 use native.Mathlib.Omega.{arith}
 use lib.ListN.{length, drop, length-append}
-use borrow.Author.Tests.{ne-eqb}
 use Rattle.lists.specs.Refusal.{_orElse_, refusalBy, grant}
 use Rattle.lists.specs.Tabulate.{zeros}
 use Rattle.numbers.specs.declared.Layout.{Layout}
@@ -18,38 +17,12 @@ use Rattle.pool.specs.Writing.{writeImage}
 use Rattle.pool.specs.Failing.{failRecord}
 use Rattle.pool.specs.Repairing.{repairImage, repairRecord, repairCount}
 use Rattle.trace.specs.Forms.{kindOf, bytesOf}
-use Rattle.trace.specs.Told.{bytes-small, Told, malformed, toldWrite, toldFail, toldRepair, toldRead, toldAs, toldOf}
+use Rattle.trace.specs.Told.{Told, malformed, toldOf}
+use Rattle.trace.specs.ToldLaws.{told-write, told-fail, told-repair, told-read}
 use Rattle.answers.specs.Decimal.{decimal, printed}
 use Rattle.replay_line.specs.declared.Played.{Played}
 use Rattle.replay_line.specs.Play.{playedRecord, playedImage, answerOf, roomy, playRefusal, laidFirst, Plays}
 use Rattle.replay_line.specs.Said.{Said}
-
--- ---- what a line of each kind tells
-
-module _ (line : List ℕ) where
-  told-as : (kind : ℕ) → kindOf line ≡ kind → toldOf line ≡ toldAs kind line
-  unfolding toldOf
-  told-as kind e = ap (λ (k : ℕ). toldAs k line) e
-
-  pub told-write : kindOf line ≡ 1 → toldOf line ≡ toldWrite (numberAt line 3 16) (bytesOf line) (bytes-small line)
-  unfolding toldAs
-  told-write e = told-as 1 e
-
-  pub told-fail : kindOf line ≡ 2 → toldOf line ≡ toldFail (numberAt line 3 2)
-  unfolding toldAs
-  told-fail e = told-as 2 e
-
-  pub told-repair : kindOf line ≡ 3 → toldOf line ≡ toldRepair
-  unfolding toldAs
-  told-repair e = told-as 3 e
-
-  pub told-read : kindOf line ≡ 4 → toldOf line ≡ toldRead (numberAt line 3 16) (numberAt line 20 16)
-  unfolding toldAs
-  told-read e = told-as 4 e
-
-  pub told-none : (kindOf line ≡ 1 → ⊥) → (kindOf line ≡ 2 → ⊥) → (kindOf line ≡ 3 → ⊥) → (kindOf line ≡ 4 → ⊥) → toldOf line ≡ malformed
-  unfolding toldOf toldAs
-  told-none a b c d = simp (ne-eqb (kindOf line) 1 a, ne-eqb (kindOf line) 2 b, ne-eqb (kindOf line) 3 c, ne-eqb (kindOf line) 4 d)
 
 -- ---- the promise
 

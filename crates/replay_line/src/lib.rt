@@ -135,7 +135,8 @@ pub struct Played {
 fn play_write(y: Layout, r: Record, image: &mut [u8], line: &[u8], answer: &mut [u8]) -> u64
     requires { ⌜ (kindOf (now line) ≡ 1) × (24 ≤ length (now answer)) ⌝ }
     ensures { λ n. ⌜ (now (image .exit) ≡ writeImage y r (now (image .entry)) (numberAt (now (line .entry)) 3 16) (bytesOf (now (line .entry))))
-        × Said (printed (rangeRefusal y r (length (now (image .entry))) (numberAt (now (line .entry)) 3 16) (length (bytesOf (now (line .entry))))) []) (now (answer .entry)) n (now (answer .exit)) ⌝ }
+        × Said (printed (rangeRefusal y r (length (now (image .entry))) (numberAt (now (line .entry)) 3 16) (length (bytesOf (now (line .entry))))) [])
+        (now (answer .entry)) n (now (answer .exit)) ⌝ }
 {
     let mut bytes = [0u8; 4140];
     let count = trace::byte_count(line);
@@ -164,7 +165,8 @@ fn play_fail(y: Layout, r: Record, image: &[u8], line: &[u8], answer: &mut [u8])
 fn play_repair(y: Layout, r: Record, image: &mut [u8], answer: &mut [u8]) -> Played
     requires { ⌜ 24 ≤ length (now answer) ⌝ }
     ensures { λ x. ⌜ (x .refusal ≡ 0) × (x .rec ≡ repairRecord y r (length (now (image .entry)))) × (now (image .exit) ≡ repairImage y r (now (image .entry)))
-        × Said (printed (repairRefusal y r (length (now (image .entry)))) (32 ∷ decimal (repairCount y r (length (now (image .entry)))))) (now (answer .entry)) (x .length) (now (answer .exit)) ⌝ }
+        × Said (printed (repairRefusal y r (length (now (image .entry)))) (32 ∷ decimal (repairCount y r (length (now (image .entry))))))
+        (now (answer .entry)) (x .length) (now (answer .exit)) ⌝ }
 {
     let repaired = pool_repair::repair(y, r, image);
     let rec = repaired.rec;

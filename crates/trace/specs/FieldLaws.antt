@@ -43,11 +43,14 @@ module _ (line widths : List ℕ) (n : ℕ) (room : n ≤ length widths) where
       same : eqb (length (drop (i + 1) (take n widths))) 0 ≡ eqb (i + 1) n
       same =
           equal-or-not (i + 1) n (λ (e : i + 1 ≡ n). eq-eqb (length (drop (i + 1) (take n widths))) 0 (omega (arith, left, e)) ∙ sym (eq-eqb (i + 1) n e))
-          (λ (f : i + 1 ≡ n → ⊥). ne-eqb (length (drop (i + 1) (take n widths))) 0 (λ (e : length (drop (i + 1) (take n widths)) ≡ 0). f (omega (arith, left, e))) ∙ sym (ne-eqb (i + 1) n f))
+          (λ (f : i + 1 ≡ n → ⊥).
+          ne-eqb (length (drop (i + 1) (take n widths))) 0 (λ (e : length (drop (i + 1) (take n widths)) ≡ 0). f (omega (arith, left, e)))
+          ∙ sym (ne-eqb (i + 1) n f))
 
   module _ (i a : ℕ) (h : i < n) where
     -- field i, what follows it, and the fields after it
-    here : fieldsFrom line widths n i a ≡ both (digitsAt line a (at widths i)) (both (eqb (at line (a + at widths i)) (after (eqb (i + 1) n))) (fieldsFrom line widths n (i + 1) (a + at widths i + 1)))
+    here : fieldsFrom line widths n i a
+        ≡ both (digitsAt line a (at widths i)) (both (eqb (at line (a + at widths i)) (after (eqb (i + 1) n))) (fieldsFrom line widths n (i + 1) (a + at widths i + 1)))
     unfolding fieldsAt
     here =
         ap (fieldsAt line a) (drop-cons (take n widths) i 0 (omega (arith, many)) ∙ (λ k. getD-take n widths i 0 h k ∷ drop (next k) (take n widths)))

@@ -24,6 +24,7 @@ use Rattle.trace.specs.Fields.{separator, fieldsAt}
 use Rattle.trace.specs.FieldLaws.{endOf, fields-length}
 use Rattle.trace.specs.Forms.{byteCount, formOf, kindOf, bytesOf}
 use Rattle.trace.specs.FormLaws.{form-write, form-fail, form-repair, form-read, form-none, kind-short, kind-right, of-kind, write-length}
+use Rattle.trace.specs.ToldLaws.{told-write, told-fail, told-repair, told-read}
 use Rattle.trace.specs.Told.{bytes-small, Told, malformed, toldWrite, toldFail, toldRepair, toldRead, toldAs, toldOf}
 use Rattle.trace.specs.Written.{digitsOf, fieldLine, fieldsOf, lineOf, Tellable}
 
@@ -356,22 +357,18 @@ module _ (line : List ℕ) where
       → (kindOf line ≡ 2 → P (toldFail (numberAt line 3 2)))
       → (kindOf line ≡ 3 → P toldRepair)
       → (kindOf line ≡ 4 → P (toldRead (numberAt line 3 16) (numberAt line 20 16))) → P (toldOf line)
-  unfolding toldOf toldAs
   by-kind P some f g h i =
-      equal-or-not (kindOf line) 1 (λ (e : kindOf line ≡ 1). as-kind e (f e))
+      equal-or-not (kindOf line) 1 (λ (e : kindOf line ≡ 1). subst P (sym (told-write line e)) (f e))
       (λ (a : kindOf line ≡ 1 → ⊥).
-      equal-or-not (kindOf line) 2 (λ (e : kindOf line ≡ 2). as-kind e (g e))
+      equal-or-not (kindOf line) 2 (λ (e : kindOf line ≡ 2). subst P (sym (told-fail line e)) (g e))
       (λ (b : kindOf line ≡ 2 → ⊥).
-      equal-or-not (kindOf line) 3 (λ (e : kindOf line ≡ 3). as-kind e (h e))
+      equal-or-not (kindOf line) 3 (λ (e : kindOf line ≡ 3). subst P (sym (told-repair line e)) (h e))
       (λ (c : kindOf line ≡ 3 → ⊥).
-      equal-or-not (kindOf line) 4 (λ (e : kindOf line ≡ 4). as-kind e (i e))
+      equal-or-not (kindOf line) 4 (λ (e : kindOf line ≡ 4). subst P (sym (told-read line e)) (i e))
       (λ (d : kindOf line ≡ 4 → ⊥).
       let k = of-kind line (kindOf line) refl some in
       let none = fields-length line 0 [] (ap (fieldsAt line 0) (sym (form-none (byteCount line) (kindOf line) a b c d)) ∙ k .fields) in
       absurd (omega (arith, some, kind-short line (omega (arith, none))))))))
-    where
-      as-kind : {kind : ℕ} → kindOf line ≡ kind → P (toldAs kind line) → P (toldOf line)
-      as-kind e p = subst (λ (k : ℕ). P (toldAs k line)) (sym e) p
 
   -- what a line tells has a line
   pub tellable-told : 0 < kindOf line → Tellable (toldOf line)

@@ -6,7 +6,8 @@ use native.Mathlib.Omega.{arith}
 use lib.ListN.{length}
 use borrow.Author.Tests.{not-true, not-false, leb-true}
 use Rattle.replay_line.specs.Play.{roomy}
-use Rattle.replay_line.specs.PlayedLaws.{told-none, plays-refused, plays-write, plays-read, plays-malformed, plays-fail, plays-repair}
+use Rattle.trace.specs.ToldLaws.{told-none}
+use Rattle.replay_line.specs.PlayedLaws.{plays-refused, plays-write, plays-read, plays-malformed, plays-fail, plays-repair}
 use borrow.Author.Needs.{needs}
 use Rattle.replay_line.proofs.play.Statement.{statement}
 use Rattle.replay_line.proofs.play.Tie as tie
