@@ -131,16 +131,27 @@ typedef struct splicebell_shown {
     size_t begins, length;
 } splicebell_shown;
 
+/* A number of 128 bits, a file's or a cob's. first is the more significant word: pairs are ordered by it, and
+ * by second where it is equal. */
+typedef struct splicebell_wide {
+    uint64_t first, second;
+} splicebell_wide;
+
+/* The component object of a file on a device. */
 typedef struct splicebell_entry {
-    uint64_t device, file, cob;
+    uint64_t device;
+    splicebell_wide file, cob;
 } splicebell_entry;
 
+/* What a record is found by; keys are ordered by device, then by file. */
 typedef struct splicebell_key {
-    uint64_t device, file;
+    uint64_t device;
+    splicebell_wide file;
 } splicebell_key;
 
 typedef struct splicebell_found {
-    uint64_t refusal, cob;
+    uint64_t refusal;
+    splicebell_wide cob;
 } splicebell_found;
 
 typedef struct splicebell_changed {
@@ -148,11 +159,12 @@ typedef struct splicebell_changed {
     size_t count;
 } splicebell_changed;
 
+/* count pairs of the output were filled; next is the file at which to go on, (0,0) where no more remain. */
 typedef struct splicebell_page {
     uint64_t refusal;
     size_t count;
     bool more;
-    uint64_t next;
+    splicebell_wide next;
 } splicebell_page;
 
 /* Where the refusal is 12, line is the first wrong line, counted from 1; else 0. */
@@ -265,7 +277,7 @@ splicebell_shown splicebell_show(splicebell_layout y, splicebell_record r, const
 /* ---- the catalogue: slots records are lent, the first n of them are in use, strictly rising by key */
 
 /* The cob of a key.
- * Refusals: 9, 11. */
+ * Refusals: 9, 11. Refused: the cob is (0,0). */
 splicebell_found splicebell_lookup(const splicebell_entry *slots, size_t slot_count, size_t n,
                                    splicebell_key key);
 
@@ -274,15 +286,16 @@ splicebell_found splicebell_lookup(const splicebell_entry *slots, size_t slot_co
 splicebell_changed splicebell_insert(splicebell_entry *slots, size_t slot_count, size_t n,
                                      splicebell_entry record);
 
-/* Takes out the record that matches in all three; the slot freed at the end becomes zeros.
+/* Takes out the record that matches in all three; the slot freed at the end becomes zeros, in all five words.
  * Refusals: 9, 11. Refused: slots and count as they were. */
 splicebell_changed splicebell_delete(splicebell_entry *slots, size_t slot_count, size_t n,
                                      splicebell_entry record);
 
-/* The cobs of a device from file key.file on, as many as fit; whether more remain, and the next file.
- * Refusals: 9. Refused: out is all zeros. The rest of out stays. */
+/* The cobs of a device from file key.file on, each as a pair, as many as fit; whether more remain, and the
+ * next file, (0,0) if none remain. The rest of out stays.
+ * Refusals: 9. Refused: out is all (0,0), the count is 0, more is false and the next file (0,0). */
 splicebell_page splicebell_listing(const splicebell_entry *slots, size_t slot_count, size_t n,
-                                   splicebell_key key, uint64_t *out, size_t out_len);
+                                   splicebell_key key, splicebell_wide *out, size_t out_len);
 
 /* ---- the hex line, and a whole pool as text */
 

@@ -1,18 +1,31 @@
 //! The catalogue of component objects.
 //!
 //! Document 01: "A lent slice of records (device, file, cob), each a 64-bit
-//! number, the first n strictly rising by device and then file."
+//! number, the first n strictly rising by device and then file." Document 02,
+//! order 5, of file and cob: "The outside design says 128 for both; only the
+//! device number is 64. Use two 64-bit words, the first the more significant,
+//! and order files by the pair. Insert, lookup, delete, listing and number 9
+//! read by the new order".
+
+/// A file or cob identifier. The derived order is that of the pair: the first
+/// words decide, and the second ones where those are equal.
+#[derive(Clone, Copy, Debug, Default, PartialEq, Eq, PartialOrd, Ord)]
+pub struct Wide {
+    /// The more significant word.
+    pub first: u64,
+    pub second: u64,
+}
 
 /// One record of the catalogue.
 #[derive(Clone, Copy, Debug, Default, PartialEq, Eq)]
 pub struct Record {
     pub device: u64,
-    pub file: u64,
-    pub cob: u64,
+    pub file: Wide,
+    pub cob: Wide,
 }
 
 impl Record {
-    fn key(&self) -> (u64, u64) {
+    fn key(&self) -> (u64, Wide) {
         (self.device, self.file)
     }
 }
@@ -24,8 +37,8 @@ pub struct Listed {
     pub count: u64,
     /// Whether more remain.
     pub more: bool,
-    /// The file number of the first that remains, 0 if none remain.
-    pub next: u64,
+    /// The file number of the first that remains, (0,0) if none remain.
+    pub next: Wide,
 }
 
 /// Refusal 9: "catalogue bad: count above the slice, or keys not strictly
@@ -42,24 +55,25 @@ pub fn refusal(records: &[Record], n: u64) -> u64 {
     }
 }
 
-fn find(records: &[Record], n: u64, key: (u64, u64)) -> Option<usize> {
+fn find(records: &[Record], n: u64, key: (u64, Wide)) -> Option<usize> {
     records[..n as usize].iter().position(|r| r.key() == key)
 }
 
-/// Public call: "Lookup gives the cob or 11"; refusals 9, 11.
-pub fn lookup(records: &[Record], n: u64, device: u64, file: u64) -> (u64, u64) {
+/// Public call: "Lookup gives the cob or 11"; refusals 9, 11, and then the cob
+/// is (0,0).
+pub fn lookup(records: &[Record], n: u64, device: u64, file: Wide) -> (u64, Wide) {
     if refusal(records, n) != 0 {
-        return (9, 0);
+        return (9, Wide::default());
     }
     match find(records, n, (device, file)) {
         Some(at) => (0, records[at].cob),
-        None => (11, 0),
+        None => (11, Wide::default()),
     }
 }
 
 /// Public call: refusal (9, 10) and the count afterwards. "Insert replaces the
 /// cob of an equal key." After a refusal the count is the old one.
-pub fn insert(records: &mut [Record], n: u64, device: u64, file: u64, cob: u64) -> (u64, u64) {
+pub fn insert(records: &mut [Record], n: u64, device: u64, file: Wide, cob: Wide) -> (u64, u64) {
     if refusal(records, n) != 0 {
         return (9, n);
     }
@@ -78,9 +92,10 @@ pub fn insert(records: &mut [Record], n: u64, device: u64, file: u64, cob: u64) 
 }
 
 /// Public call: refusal (9, 11) and the count afterwards. "Delete needs all
-/// three to match, else 11; the slot it frees at the end becomes three zeros."
-/// After a refusal the count is the old one.
-pub fn delete(records: &mut [Record], n: u64, device: u64, file: u64, cob: u64) -> (u64, u64) {
+/// three to match, else 11; the slot it frees at the end becomes three zeros":
+/// the zero of a file or cob is (0,0), so all five words. After a refusal the
+/// count is the old one.
+pub fn delete(records: &mut [Record], n: u64, device: u64, file: Wide, cob: Wide) -> (u64, u64) {
     if refusal(records, n) != 0 {
         return (9, n);
     }
@@ -99,16 +114,17 @@ pub fn delete(records: &mut [Record], n: u64, device: u64, file: u64, cob: u64) 
 ///
 /// Document 01: "it writes the cobs of that device with file ≥ first, in file
 /// order, as many as fit, leaves the rest of the output, and answers the count,
-/// whether more remain and the next file number (0 if none remain)."
+/// whether more remain and the next file number". Document 02, order 5: "the
+/// next file number of a listing becomes a pair, (0,0) if none remain."
 pub fn listing(
     records: &[Record],
     n: u64,
     device: u64,
-    first: u64,
-    out: &mut [u64],
+    first: Wide,
+    out: &mut [Wide],
 ) -> (u64, Listed) {
     if refusal(records, n) != 0 {
-        out.fill(0);
+        out.fill(Wide::default());
         return (9, Listed::default());
     }
     let wanted: Vec<Record> = records[..n as usize]
@@ -123,7 +139,7 @@ pub fn listing(
     let listed = Listed {
         count: count as u64,
         more: wanted.len() > count,
-        next: wanted.get(count).map_or(0, |r| r.file),
+        next: wanted.get(count).map_or(Wide::default(), |r| r.file),
     };
     (0, listed)
 }
@@ -132,51 +148,84 @@ pub fn listing(
 mod tests {
     use super::*;
 
-    fn record(device: u64, file: u64, cob: u64) -> Record {
+    const ONES: u64 = u64::MAX;
+
+    fn wide(first: u64, second: u64) -> Wide {
+        Wide { first, second }
+    }
+
+    fn record(device: u64, file: Wide, cob: Wide) -> Record {
         Record { device, file, cob }
+    }
+
+    fn page(count: u64, more: bool, next: Wide) -> (u64, Listed) {
+        (0, Listed { count, more, next })
+    }
+
+    /// Slots of one device, in use, with its files in this order.
+    fn of_files(files: &[Wide]) -> Vec<Record> {
+        let slots = files.iter().map(|file| record(3, *file, wide(8, 9)));
+        slots.collect()
     }
 
     #[test]
     fn calls_in_turn() {
+        let (low, high, cob) = (wide(0, 5), wide(1, 2), wide(6, 7));
         let mut slots = [Record::default(); 3];
-        assert_eq!(insert(&mut slots, 0, 2, 5, 7), (0, 1));
-        assert_eq!(insert(&mut slots, 1, 1, 9, 8), (0, 2));
-        assert_eq!(insert(&mut slots, 2, 2, 5, 6), (0, 2));
-        assert_eq!(slots, [record(1, 9, 8), record(2, 5, 6), record(0, 0, 0)]);
-        assert_eq!(lookup(&slots, 2, 2, 5), (0, 6));
-        assert_eq!(lookup(&slots, 2, 2, 6), (11, 0));
-        assert_eq!(insert(&mut slots, 2, 2, 8, 4), (0, 3));
-        assert_eq!(insert(&mut slots, 3, 2, 9, 4), (10, 3));
-        let mut out = [1, 1];
-        let (more, next) = (true, 8);
-        let answer = listing(&slots, 3, 2, 0, &mut out[..1]);
+        assert_eq!(insert(&mut slots, 0, 2, high, cob), (0, 1));
+        assert_eq!(insert(&mut slots, 1, 2, low, wide(4, 4)), (0, 2));
+        assert_eq!(insert(&mut slots, 2, 1, wide(9, 9), cob), (0, 3));
+        assert_eq!(insert(&mut slots, 3, 2, low, wide(4, 5)), (0, 3));
+        let (first, last) = (record(1, wide(9, 9), cob), record(2, high, cob));
+        assert_eq!(slots, [first, record(2, low, wide(4, 5)), last]);
+        assert_eq!(insert(&mut slots, 3, 2, wide(1, 3), cob), (10, 3));
+        assert_eq!(lookup(&slots, 3, 2, low), (0, wide(4, 5)));
+        assert_eq!(lookup(&slots, 3, 2, wide(5, 0)), (11, wide(0, 0)));
+        assert_eq!(delete(&mut slots, 3, 2, low, wide(4, 4)), (11, 3));
+        assert_eq!(delete(&mut slots, 3, 2, low, wide(3, 5)), (11, 3));
+        assert_eq!(delete(&mut slots, 3, 2, low, wide(4, 5)), (0, 2));
+        assert_eq!(slots, [first, last, Record::default()]);
+        assert_eq!(insert(&mut slots, 4, 1, low, cob), (9, 4));
+        assert_eq!(lookup(&slots, 3, 2, high), (9, wide(0, 0)));
+    }
+
+    #[test]
+    fn listings() {
+        let (a, b, c) = (wide(0, ONES), wide(1, 0), wide(ONES, 0));
+        let slots = of_files(&[a, b, c]);
+        let mut out = [wide(1, 1); 2];
+        let answer = listing(&slots, 3, 3, wide(0, 0), &mut out[..1]);
+        assert_eq!((answer, out), (page(1, true, b), [wide(8, 9), wide(1, 1)]));
+        assert_eq!(listing(&slots, 3, 3, b, &mut []), page(0, true, b));
         assert_eq!(
-            answer,
-            (
-                0,
-                Listed {
-                    count: 1,
-                    more,
-                    next
-                }
-            )
+            listing(&slots, 3, 3, wide(0, 0), &mut out),
+            page(2, true, c)
         );
-        assert_eq!(out, [6, 1]);
+        out = [wide(1, 1); 2];
+        let answer = listing(&slots, 3, 3, wide(1, 1), &mut out);
+        let none = wide(0, 0);
         assert_eq!(
-            listing(&slots, 3, 2, 0, &mut []),
-            (
-                0,
-                Listed {
-                    count: 0,
-                    more,
-                    next: 5
-                }
-            )
+            (answer, out),
+            (page(1, false, none), [wide(8, 9), wide(1, 1)])
         );
-        assert_eq!(delete(&mut slots, 3, 1, 9, 7), (11, 3));
-        assert_eq!(delete(&mut slots, 3, 1, 9, 8), (0, 2));
-        assert_eq!(slots, [record(2, 5, 6), record(2, 8, 4), record(0, 0, 0)]);
-        assert_eq!(insert(&mut slots, 4, 1, 1, 1), (9, 4));
-        assert_eq!(lookup(&slots, 3, 2, 5), (9, 0));
+        let answer = listing(&slots, 4, 3, none, &mut out);
+        assert_eq!((answer, out), ((9, Listed::default()), [none; 2]));
+        assert_eq!(
+            listing(&of_files(&[none]), 1, 3, none, &mut []),
+            page(0, true, none)
+        );
+    }
+
+    #[test]
+    fn the_order_is_that_of_the_number_of_128_bits() {
+        let words = [0, 1, 2, 1 << 63, ONES - 1, ONES];
+        let pairs = words.map(|first| words.map(|second| wide(first, second)));
+        let pairs = pairs.as_flattened();
+        let number = |w: &Wide| u128::from(w.first) << 64 | u128::from(w.second);
+        assert_eq!(refusal(&of_files(pairs), 36), 0);
+        for (a, b) in pairs.iter().flat_map(|a| pairs.iter().map(move |b| (a, b))) {
+            let wanted = if number(a) < number(b) { 0 } else { 9 };
+            assert_eq!(refusal(&of_files(&[*a, *b]), 2), wanted, "{a:?} {b:?}");
+        }
     }
 }

@@ -1,6 +1,6 @@
 //! `oracle expected NAME` prints the expected output of a program, `oracle
 //! input NAME` the standard input of one that reads it, `oracle names` lists
-//! the programs, `oracle selfcheck` tries document 01's examples.
+//! the programs, `oracle selfcheck` tries the documents' examples.
 
 use std::io::Write;
 use std::process::ExitCode;
@@ -43,7 +43,7 @@ fn print(text: Option<Vec<u8>>, missing: &str) -> ExitCode {
 fn selfcheck() -> ExitCode {
     let failures = oracle::selfcheck::failures();
     for name in &failures {
-        println!("oracle: differs from document 01: {name}");
+        println!("oracle: differs from the documents: {name}");
     }
     let tried = oracle::selfcheck::CHECKS.len();
     println!(

@@ -1,5 +1,7 @@
-//! Document 01's checked examples, starred or not, as checks of this library.
+//! Document 01's checked examples, starred or not, and the order that order 5
+//! of document 02 gives to files, as checks of this library.
 
+use crate::catalogue::{listing, lookup, refusal, Listed, Record as Entry, Wide};
 use crate::field::multiply;
 use crate::group::{coefficient, encode};
 use crate::hexline::hex_line;
@@ -9,11 +11,11 @@ use crate::place::{file_byte, image_byte, place};
 use crate::pool::{fail, homes, read, repair, unit_targets, write, Record};
 use crate::pool_text::{read_text, write_text};
 
-/// One example: the words of document 01 and whether this library agrees.
+/// One example: the words of the documents and whether this library agrees.
 pub type Check = (&'static str, fn() -> bool);
 
 /// All of them.
-pub const CHECKS: [Check; 19] = [
+pub const CHECKS: [Check; 23] = [
     ("N=4 K=2 P=20: W=8, B=40, L=2, C=5", wide_layout),
     ("N=1 K=0 P=1: L=1, C=1", least_layout),
     ("N=16 K=3: P=22 accepted, P=21 refused 1", tight_layout),
@@ -47,6 +49,22 @@ pub const CHECKS: [Check; 19] = [
     (
         "dividing by the spares too puts offset 9 on group 0, unit 2",
         slip,
+    ),
+    (
+        "order 5: files that differ in the first word alone rise by it",
+        first_words,
+    ),
+    (
+        "order 5: files that differ in the second word alone rise by it",
+        second_words,
+    ),
+    (
+        "order 5: the first word is the more significant, at both ends of 64 bits",
+        both_ends,
+    ),
+    (
+        "order 5: the next file number is a pair, (0,0) if none remain",
+        next_pairs,
     ),
 ];
 
@@ -199,10 +217,65 @@ fn slip() -> bool {
     (9 / wrong, 9 % wrong / example().u) == (0, 2)
 }
 
+/// Slots of one device, all in use, whose files are these pairs. The cobs tell
+/// them apart.
+fn of_files(files: &[(u64, u64)]) -> Vec<Entry> {
+    let record = |(at, (first, second)): (usize, &(u64, u64))| Entry {
+        device: 5,
+        file: pair(*first, *second),
+        cob: pair(at as u64, 7),
+    };
+    files.iter().enumerate().map(record).collect()
+}
+
+fn pair(first: u64, second: u64) -> Wide {
+    Wide { first, second }
+}
+
+/// Whether the files rise as they stand, each is found, and no two exchanged
+/// neighbours or equal ones rise.
+fn rise(files: &[(u64, u64)]) -> bool {
+    let (slots, n) = (of_files(files), files.len() as u64);
+    let found = |slot: &Entry| lookup(&slots, n, 5, slot.file) == (0, slot.cob);
+    let falls = |two: &[(u64, u64)]| refusal(&of_files(&[two[1], two[0]]), 2) == 9;
+    let repeats = |file: &(u64, u64)| refusal(&of_files(&[*file, *file]), 2) == 9;
+    refusal(&slots, n) == 0
+        && slots.iter().all(found)
+        && files.windows(2).all(falls)
+        && files.iter().all(repeats)
+}
+
+fn first_words() -> bool {
+    rise(&[0, 1, 1 << 63, u64::MAX - 1, u64::MAX].map(|first| (first, 4)))
+}
+
+fn second_words() -> bool {
+    rise(&[0, 1, 1 << 63, u64::MAX - 1, u64::MAX].map(|second| (4, second)))
+}
+
+fn both_ends() -> bool {
+    let pairs = [0, 1, u64::MAX].map(|first| [(first, 0), (first, u64::MAX)]);
+    rise(pairs.as_flattened())
+}
+
+fn next_pairs() -> bool {
+    let slots = of_files(&[(0, u64::MAX), (1, 0), (u64::MAX, 0)]);
+    let listed = |from: Wide, room: usize| {
+        let mut out = vec![pair(9, 9); room];
+        let (refusal, Listed { count, more, next }) = listing(&slots, 3, 5, from, &mut out);
+        (refusal, count, more, next)
+    };
+    listed(pair(0, 0), 1) == (0, 1, true, pair(1, 0))
+        && listed(pair(1, 0), 1) == (0, 1, true, pair(u64::MAX, 0))
+        && listed(pair(0, u64::MAX), 0) == (0, 0, true, pair(0, u64::MAX))
+        && listed(pair(1, 1), 1) == (0, 1, false, pair(0, 0))
+        && listed(pair(u64::MAX, 1), 0) == (0, 0, false, pair(0, 0))
+}
+
 #[cfg(test)]
 mod tests {
     #[test]
-    fn document_01s_examples_hold() {
+    fn the_documents_examples_hold() {
         assert_eq!(super::failures(), Vec::<&str>::new());
     }
 }

@@ -6,11 +6,13 @@
 //! thread reads or writes what is lent. The library keeps no pointer after a call, and stores into what is
 //! lent only bytes and numbers of 64 bits, which may hold any value; a `bool` in an answer is 0 or 1. Its
 //! stack is taken page by page, as Rust does it, so too small a stack ends the program at the guard page.
+//! What is lent under another type than it has here is as large, and at least as aligned: asserted below.
 use crate::raw::*;
 use crate::{Entry, Range};
-use std::mem::{align_of, offset_of, size_of};
+use std::mem::{align_of, offset_of, size_of, transmute};
 
-// An entry and a range of the safe interface are lent to the library as they stand.
+// An entry and a range of the safe interface are lent to the library as they stand, a number of 128 bits as
+// room for a pair.
 const _: () = {
     assert!(size_of::<Entry>() == size_of::<splicebell_entry>());
     assert!(align_of::<Entry>() == align_of::<splicebell_entry>());
@@ -21,6 +23,8 @@ const _: () = {
     assert!(align_of::<Range>() == align_of::<splicebell_range>());
     assert!(offset_of!(Range, offset) == offset_of!(splicebell_range, offset));
     assert!(offset_of!(Range, length) == offset_of!(splicebell_range, length));
+    assert!(size_of::<u128>() == size_of::<splicebell_wide>());
+    assert!(align_of::<u128>() >= align_of::<splicebell_wide>());
 };
 
 pub fn measure(y: splicebell_layout) -> splicebell_measured {
@@ -146,9 +150,24 @@ pub fn delete(slots: &mut [Entry], n: usize, record: splicebell_entry) -> splice
     unsafe { splicebell_delete(slots.as_mut_ptr().cast(), slots.len(), n, record) }
 }
 
-pub fn listing(slots: &[Entry], n: usize, key: splicebell_key, out: &mut [u64]) -> splicebell_page {
-    let (into, room) = (out.as_mut_ptr(), out.len());
-    unsafe { splicebell_listing(slots.as_ptr().cast(), slots.len(), n, key, into, room) }
+/// The output is lent as pairs, whose words may stand in another order than those of a `u128` in memory. So the
+/// `count` pairs that were written become numbers here, each where it stands. The rest is left alone: after an
+/// accepted call it holds the caller's own numbers still, after a refused one zeros, which are the same in both
+/// forms. That is sound whatever was stored, since any 16 bytes are a pair and a `u128`; a count above the room
+/// stops the program before a number is read.
+pub fn listing(
+    slots: &[Entry],
+    n: usize,
+    key: splicebell_key,
+    out: &mut [u128],
+) -> splicebell_page {
+    let (into, room) = (out.as_mut_ptr().cast(), out.len());
+    let page =
+        unsafe { splicebell_listing(slots.as_ptr().cast(), slots.len(), n, key, into, room) };
+    for cob in &mut out[..page.count] {
+        *cob = unsafe { transmute::<u128, splicebell_wide>(*cob) }.into();
+    }
+    page
 }
 
 pub fn hex_line(

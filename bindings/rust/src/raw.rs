@@ -150,25 +150,32 @@ pub struct splicebell_shown {
 }
 
 #[repr(C)]
+#[derive(Clone, Copy, Debug, Default, PartialEq, Eq, Hash)]
+pub struct splicebell_wide {
+    pub first: u64,
+    pub second: u64,
+}
+
+#[repr(C)]
 #[derive(Clone, Copy, Debug, Default, PartialEq, Eq)]
 pub struct splicebell_entry {
     pub device: u64,
-    pub file: u64,
-    pub cob: u64,
+    pub file: splicebell_wide,
+    pub cob: splicebell_wide,
 }
 
 #[repr(C)]
 #[derive(Clone, Copy, Debug, Default, PartialEq, Eq)]
 pub struct splicebell_key {
     pub device: u64,
-    pub file: u64,
+    pub file: splicebell_wide,
 }
 
 #[repr(C)]
 #[derive(Clone, Copy, Debug, Default, PartialEq, Eq)]
 pub struct splicebell_found {
     pub refusal: u64,
-    pub cob: u64,
+    pub cob: splicebell_wide,
 }
 
 #[repr(C)]
@@ -184,7 +191,7 @@ pub struct splicebell_page {
     pub refusal: u64,
     pub count: usize,
     pub more: bool,
-    pub next: u64,
+    pub next: splicebell_wide,
 }
 
 #[repr(C)]
@@ -311,7 +318,7 @@ extern "C" {
         slot_count: usize,
         n: usize,
         key: splicebell_key,
-        out: *mut u64,
+        out: *mut splicebell_wide,
         out_len: usize,
     ) -> splicebell_page;
     pub fn splicebell_hex_line(

@@ -1,4 +1,5 @@
 //! The safe interface on a small pool and a small catalogue.
+use splicebell::raw::splicebell_wide;
 use splicebell::{
     Catalogue, Cursor, Entry, Key, Layout, ListRefusal, Mapped, Page, Pool, Range, Record, Refusal,
     TextRefusal, Traced, Unit,
@@ -385,7 +386,7 @@ fn a_catalogue_keeps_its_order() -> Result<(), Refusal> {
     let mut slots = [Entry::default(); 4];
     let mut catalogue = Catalogue::new(&mut slots, 0);
     for (device, file, cob) in [(2, 7, 70), (2, 0, 10), (1, 9, 90), (2, 7, 71)] {
-        catalogue.insert(Entry { device, file, cob })?;
+        catalogue.insert(Entry::new(device, file, cob))?;
     }
     assert_eq!(catalogue.count(), 3);
     assert_eq!(catalogue.lookup(Key { device: 2, file: 7 })?, 71);
@@ -394,20 +395,105 @@ fn a_catalogue_keeps_its_order() -> Result<(), Refusal> {
     assert_eq!((all, cobs), (Page { count: 2, next: None }, [10, 71, 5]));
     let none_fit = catalogue.listing(Key { device: 2, file: 0 }, &mut [])?;
     assert_eq!(none_fit, Page { count: 0, next: Some(0) });
-    let other_cob = Entry { device: 1, file: 9, cob: 91 };
-    assert_eq!(catalogue.delete(other_cob), Err(Refusal::NoSuchRecord));
-    catalogue.delete(Entry { cob: 90, ..other_cob })?;
+    assert_eq!(catalogue.delete(Entry::new(1, 9, 91)), Err(Refusal::NoSuchRecord));
+    catalogue.delete(Entry::new(1, 9, 90))?;
     assert_eq!(catalogue.count(), 2);
     assert_eq!(catalogue.slots()[2..], [Entry::default(); 2]);
     Ok(())
 }
 
+/// Both ends of each word, in rising order, with their words.
+const WIDE: [(u128, u64, u64); 7] = [
+    (0, 0, 0),
+    (1, 0, 1),
+    (u64::MAX as u128, 0, u64::MAX),
+    (1 << 64, 1, 0),
+    ((1 << 64) + 1, 1, 1),
+    (u128::MAX - u64::MAX as u128, u64::MAX, 0),
+    (u128::MAX, u64::MAX, u64::MAX),
+];
+
+#[test]
+fn a_number_is_a_pair_with_the_more_significant_word_first() {
+    for (number, first, second) in WIDE {
+        assert_eq!(splicebell_wide::from(number), splicebell_wide { first, second });
+        assert_eq!(u128::from(splicebell_wide { first, second }), number);
+    }
+    for (number, first, second) in WIDE {
+        for (other, other_first, other_second) in WIDE {
+            assert_eq!(number.cmp(&other), (first, second).cmp(&(other_first, other_second)));
+        }
+    }
+}
+
+#[test]
+fn an_entry_is_kept_in_words_and_shown_in_numbers() {
+    for (file, ..) in WIDE {
+        for (cob, ..) in WIDE {
+            let entry = Entry::new(3, file, cob);
+            assert_eq!((entry.device(), entry.file(), entry.cob()), (3, file, cob));
+            assert_eq!(entry.key(), Key { device: 3, file });
+            assert_eq!(
+                format!("{entry:?}"),
+                format!("Entry {{ device: 3, file: {file}, cob: {cob} }}")
+            );
+        }
+    }
+    assert_eq!(Entry::default(), Entry::new(0, 0, 0));
+}
+
+/// A record for each of those files; their cobs are those numbers too, falling.
+fn wide_entries() -> Vec<Entry> {
+    WIDE.iter().zip(WIDE.iter().rev()).map(|(file, cob)| Entry::new(9, file.0, cob.0)).collect()
+}
+
+#[test]
+fn a_catalogue_keeps_wide_numbers_in_order() -> Result<(), Refusal> {
+    let in_order = wide_entries();
+    let mut slots = [Entry::default(); WIDE.len()];
+    let mut catalogue = Catalogue::new(&mut slots, 0);
+    for at in [3, 6, 0, 5, 2, 1, 4] {
+        catalogue.insert(in_order[at])?;
+    }
+    assert_eq!(catalogue.slots(), in_order);
+    for entry in &in_order {
+        assert_eq!(catalogue.lookup(entry.key())?, entry.cob());
+    }
+    for other_cob in [in_order[1].cob() ^ 1, in_order[1].cob() ^ 1 << 64] {
+        let other = Entry::new(9, 1, other_cob);
+        assert_eq!(catalogue.delete(other), Err(Refusal::NoSuchRecord));
+    }
+    catalogue.delete(in_order[1])?;
+    assert_eq!(catalogue.lookup(in_order[1].key()), Err(Refusal::NoSuchRecord));
+    let left = [&in_order[..1], &in_order[2..], &[Entry::default()]].concat();
+    assert_eq!((catalogue.count(), catalogue.slots()), (6, &left[..]));
+    Ok(())
+}
+
+/// The output is lent as pairs: only those that were written may be turned into numbers.
+#[test]
+fn a_listing_writes_wide_numbers_and_leaves_the_rest() -> Result<(), Refusal> {
+    let mut slots = wide_entries();
+    let in_order = slots.clone();
+    let catalogue = Catalogue::new(&mut slots, WIDE.len());
+    let rest = u128::from(u64::MAX);
+    for (at, entry) in in_order.iter().enumerate() {
+        let mut cobs = [rest; 3];
+        let page = catalogue.listing(entry.key(), &mut cobs)?;
+        let onward: Vec<u128> = in_order[at..].iter().take(3).map(Entry::cob).collect();
+        assert_eq!(cobs[..page.count], onward);
+        assert!(cobs[page.count..].iter().all(|cob| *cob == rest));
+        assert_eq!(page.next, in_order.get(at + 3).map(Entry::file));
+    }
+    Ok(())
+}
+
 #[test]
 fn a_bad_catalogue_is_refused_and_kept() {
-    let falling = [Entry { device: 2, file: 0, cob: 1 }, Entry { device: 1, file: 0, cob: 2 }];
+    let falling = [Entry::new(2, 0, 1), Entry::new(1, 0, 2)];
     let mut slots = falling;
     let mut catalogue = Catalogue::new(&mut slots, 2);
-    let mut cobs = [5; 2];
+    let mut cobs = [u128::MAX; 2];
     let listed = catalogue.listing(Key { device: 2, file: 0 }, &mut cobs);
     assert_eq!((listed, cobs), (Err(Refusal::BadCatalogue), [0; 2]));
     assert_eq!(catalogue.insert(falling[0]), Err(Refusal::BadCatalogue));

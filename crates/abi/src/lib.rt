@@ -5,6 +5,7 @@ use entries::Entry;
 use entries::Found;
 use entries::Key;
 use entries::Page;
+use entries::Wide;
 use homes::Record;
 use layout::Cursor;
 use layout::Entries;
@@ -258,7 +259,7 @@ pub extern "C" fn splicebell_delete(s: &mut [Entry], n: usize, r: Entry) -> Chan
 }
 
 #[no_mangle]
-pub extern "C" fn splicebell_listing(s: &[Entry], n: usize, key: Key, out: &mut [u64]) -> Page
+pub extern "C" fn splicebell_listing(s: &[Entry], n: usize, key: Key, out: &mut [Wide]) -> Page
     ensures { λ r. ⌜ Listing key n (now (s .entry)) (now (out .entry)) r (now (out .exit)) ⌝ }
 {
     catalogue::listing(s, n, key, out)

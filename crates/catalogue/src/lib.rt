@@ -1,43 +1,90 @@
 // The catalogue of component objects: a lent slice of records, the first n strictly rising by device and then file. Every call tests
 // that itself; what it decides, it decides on values (crate `entries`).
 ghost use mathlib.Core.Path.{_≡_};
+ghost use mathlib.Core.Bool.{true};
 ghost use Prim.Native.Nat.{_≤_, _+_};
-ghost use lib.ListN.{length};
+ghost use lib.ListN.{length, getD, take};
+ghost use Rattle.entries.specs.Blank.{blank};
+ghost use Rattle.entries.specs.Key.{rising};
+ghost use Rattle.entries.specs.Catalogue.{sound};
 ghost use Rattle.entries.specs.Promise.{Lookup, Insert, Delete, Listing};
 ghost use Rattle.entries.specs.Roll.{rolled, inside};
-ghost use Rattle.entries.specs.Listed.{listed};
+ghost use Rattle.entries.specs.Listed.{listed, wiped};
+ghost use Rattle.entries.specs.Span.{pastCount};
 ghost use Rattle.entries.specs.Look.{scanOf};
+ghost use Rattle.entries.specs.Plans.{windowOf};
 use entries::Changed;
 use entries::Entry;
 use entries::Found;
 use entries::Key;
 use entries::Look;
 use entries::Page;
+use entries::Show;
+use entries::Wide;
 use entries::answer;
+use entries::between;
+use entries::blank_entry;
+use entries::continued;
 use entries::deletion;
+use entries::fresh;
+use entries::halved;
 use entries::insertion;
 use entries::key_of;
+use entries::look_at;
 use entries::moved;
 use entries::outcome;
+use entries::passed;
 use entries::report;
 use entries::shown;
-use entries::start;
-use entries::step;
-use entries::wipe;
+use entries::trusted;
 
-// One pass over the first n records, or over all where n is above their number.
-fn scan(s: &[Entry], n: usize, key: Key, room: usize) -> Look
-    ensures { λ x. ⌜ x ≡ scanOf key n room (now (s .entry)) ⌝ }
+// No refusal 9: the count is not above the slice, and the keys of the first n records rise.
+fn is_legal(s: &[Entry], n: usize) -> bool
+    ensures { λ r. ⌜ r ≡ sound n (now (s .entry)) ⌝ }
 {
-    let len = s.len();
-    let mut x = start(key, n, len, room);
-    let upto = x.upto;
+    if s.len() < n {
+        return false;
+    }
+    let mut x = fresh();
     let mut i = 0;
-    while i < upto {
-        x = step(x, s[i]);
+    while i < n {
+        x = passed(x, s[i]);
         i += 1;
     }
-    x
+    x.rising
+}
+
+// How many of the first m records a search goes past: since their keys rise, it looks at the middle and goes on in one half.
+fn search(s: &[Entry], m: usize, key: Key, whole: bool) -> usize
+    requires { ⌜ (m ≤ length (now s)) × (rising (take m (now s)) ≡ true) ⌝ }
+    ensures { λ r. ⌜ r ≡ pastCount key whole (take m (now (s .entry))) ⌝ }
+{
+    let mut x = between(0, m);
+    while x.low < x.high {
+        x = halved(x, key, whole, s[x.at]);
+    }
+    x.low
+}
+
+// The record at a place, five zeros past the end.
+fn peek(s: &[Entry], at: usize) -> Entry
+    ensures { λ r. ⌜ r ≡ getD (now (s .entry)) at blank ⌝ }
+{
+    if s.len() <= at {
+        return blank_entry();
+    }
+    s[at]
+}
+
+// The test of the order, and the place of a key.
+fn scan(s: &[Entry], n: usize, key: Key) -> Look
+    ensures { λ x. ⌜ x ≡ scanOf key n (now (s .entry)) ⌝ }
+{
+    let sound = is_legal(s, n);
+    let upto = trusted(n, sound);
+    let at = search(s, upto, key, false);
+    let there = peek(s, at);
+    look_at(n, s.len(), sound, key, at, there)
 }
 
 // Each place of a run gets what the place before it had, the first one a record that is passed: every change of a catalogue.
@@ -58,7 +105,7 @@ fn roll(s: &mut [Entry], from: usize, count: usize, down: bool, first: Entry)
 }
 
 // The cobs of a run of records, one after the other.
-fn list(s: &[Entry], from: usize, out: &mut [u64], count: usize)
+fn list(s: &[Entry], from: usize, out: &mut [Wide], count: usize)
     requires { ⌜ (from + count ≤ length (now s)) × (count ≤ length (now out)) ⌝ }
     ensures { λ _. ⌜ now (out .exit) ≡ listed count from (now (s .entry)) (now (out .entry)) ⌝ }
 {
@@ -70,11 +117,38 @@ fn list(s: &[Entry], from: usize, out: &mut [u64], count: usize)
     }
 }
 
+// The first m pairs become zeros.
+fn wipe(out: &mut [Wide], m: usize)
+    requires { ⌜ m ≤ length (now out) ⌝ }
+    ensures { λ _. ⌜ now (out .exit) ≡ wiped m (now (out .entry)) ⌝ }
+{
+    let nought = Wide {
+        first: 0,
+        second: 0,
+    };
+    let mut i = 0;
+    while i < m {
+        out[i] = nought;
+        i += 1;
+    }
+}
+
+// What a listing shows: the records of the device from the key on, as many as there is room for, and where it goes on.
+fn window(s: &[Entry], n: usize, key: Key, room: usize) -> Show
+    ensures { λ w. ⌜ w ≡ windowOf key n room (now (s .entry)) ⌝ }
+{
+    let x = scan(s, n, key);
+    let end = search(s, x.upto, key, true);
+    let w = shown(x, end, room);
+    let first = peek(s, w.after);
+    continued(w, first)
+}
+
 // The cob of a key, or 11.
 pub fn lookup(s: &[Entry], n: usize, key: Key) -> Found
     ensures { λ r. ⌜ Lookup key n (now (s .entry)) r ⌝ }
 {
-    let x = scan(s, n, key, 0);
+    let x = scan(s, n, key);
     answer(x)
 }
 
@@ -83,30 +157,29 @@ pub fn insert(s: &mut [Entry], n: usize, r: Entry) -> Changed
     ensures { λ c. ⌜ Insert r n (now (s .entry)) c (now (s .exit)) ⌝ }
 {
     let key = key_of(r);
-    let x = scan(s, n, key, 0);
+    let x = scan(s, n, key);
     let w = insertion(x, r);
     roll(s, w.from, w.count, w.down, w.first);
     outcome(w)
 }
 
-// Takes a record out that matches in all three, else 11. The slot that is freed at the end becomes three zeros.
+// Takes a record out that matches in device, file and cob, else 11. The slot that is freed at the end becomes zeros in all five words.
 pub fn delete(s: &mut [Entry], n: usize, r: Entry) -> Changed
     ensures { λ c. ⌜ Delete r n (now (s .entry)) c (now (s .exit)) ⌝ }
 {
     let key = key_of(r);
-    let x = scan(s, n, key, 0);
+    let x = scan(s, n, key);
     let w = deletion(x, r);
     roll(s, w.from, w.count, w.down, w.first);
     outcome(w)
 }
 
 // The cobs of a device from a file number on, in file order, as many as fit.
-pub fn listing(s: &[Entry], n: usize, key: Key, out: &mut [u64]) -> Page
+pub fn listing(s: &[Entry], n: usize, key: Key, out: &mut [Wide]) -> Page
     ensures { λ r. ⌜ Listing key n (now (s .entry)) (now (out .entry)) r (now (out .exit)) ⌝ }
 {
     let room = out.len();
-    let x = scan(s, n, key, room);
-    let w = shown(x, room);
+    let w = window(s, n, key, room);
     list(s, w.from, out, w.count);
     wipe(out, w.wiped);
     report(w)

@@ -4,7 +4,7 @@ use Prim.Native.Nat.{ℕ, suc, _+_, _-_, _≤_, _<_}
 use native.Mathlib.Omega.{arith}
 use mathlib.Core.Bool.{Bool, true, false, _||_, false≢true}
 use mathlib.Core.List.{List, [], _∷_, _++_, append-assoc}
-use lib.Dec.{ltb, leb, eqb}
+use lib.Dec.{ltb, leb}
 use lib.ListN.{length, getD, take, drop, length-append, take-append-drop}
 use lib.Seq.{length-take-le, drop-cons}
 use borrow.Author.Tests.{ltb-true, leb-true}
@@ -14,24 +14,32 @@ use Rattle.lists.specs.Refusal.{refusalBy, _orElse_}
 use Rattle.entries.specs.declared.Entry.{Entry}
 use Rattle.entries.specs.declared.Plan.{Plan}
 use Rattle.entries.specs.declared.Changed.{Changed}
-use Rattle.entries.specs.declared.Found.{Found}
+use Rattle.entries.specs.declared.Wide.{Wide}
+use Rattle.entries.specs.Wide.{wideEq}
 use Rattle.entries.specs.Blank.{blank}
 use Rattle.entries.specs.Key.{keyOf, rising}
 use Rattle.entries.specs.Look.{scanOf}
 use Rattle.entries.specs.Roll.{rolled, inside}
 use Rattle.entries.specs.Plans.{insertionBy, deletionBy, insertionOf, deletionOf, outcomeOf}
-use Rattle.entries.specs.Catalogue.{before, holders, after, sound, inserted, insertOf, insertedList, removed, matches, deleteOf, deletedList, changed, changedList}
+use Rattle.entries.specs.Catalogue.{before, holders, after, sound, cobOf, inserted, insertOf, insertedList, removed, matches, deleteOf, deletedList, changed, changedList}
 use Rattle.entries.specs.Splits.{Split, new, old, split}
 use Rattle.entries.specs.Rolls.{rolled-up, rolled-down}
-use Rattle.entries.specs.Looks.{heldCob, scan-n, scan-len, scan-sound, scan-at, scan-found, scan-held, heldOr, scan-placed}
+use Rattle.entries.specs.Looks.{scan-n, scan-len, scan-sound, scan-at, scan-found, scan-cob, scan-placed}
 
--- ---- the plan, of the numbers that the definitions speak of
+-- ---- the plan, of the numbers that the definitions speak of; where the catalogue is bad, no other number counts
+insertion-by : (n at at′ : ℕ) (r : Entry) (s f f′ l : Bool) → (s ≡ true → at ≡ at′) → (s ≡ true → f ≡ f′)
+    → insertionBy n at r s f l ≡ insertionBy n at′ r s f′ l
+insertion-by n at at′ r true f f′ l p q = ap (λ (j : ℕ). insertionBy n j r true f l) (p refl) ∙ ap (λ (b : Bool). insertionBy n at′ r true b l) (q refl)
+insertion-by n at at′ r false f f′ l p q = refl
+
 pub insertion-is : (r : Entry) (n : ℕ) (ys : List Entry)
-    → insertionOf (scanOf (keyOf r) n 0 ys) r ≡ insertionBy n (length (before (keyOf r) (take n ys))) r (sound n ys) (nonempty (holders (keyOf r)
+    → insertionOf (scanOf (keyOf r) n ys) r ≡ insertionBy n (length (before (keyOf r) (take n ys))) r (sound n ys) (nonempty (holders (keyOf r)
     (take n ys))) (ltb n (length ys))
 unfolding insertionOf
 insertion-is r n ys =
-    cc (scan-n (keyOf r) n 0 ys, scan-len (keyOf r) n 0 ys, scan-sound (keyOf r) n 0 ys, scan-at (keyOf r) n 0 ys, scan-found (keyOf r) n 0 ys)
+    cc (scan-n (keyOf r) n ys, scan-len (keyOf r) n ys, scan-sound (keyOf r) n ys)
+    ∙ insertion-by n (scanOf (keyOf r) n ys .at) (length (before (keyOf r) (take n ys))) r (sound n ys) (scanOf (keyOf r) n ys .found) (nonempty
+    (holders (keyOf r) (take n ys))) (ltb n (length ys)) (scan-at (keyOf r) n ys) (scan-found (keyOf r) n ys)
 
 -- what an accepted change knows: the first n records, and the rest
 record Good (n : ℕ) (ys : List Entry) : Type 0 where
@@ -54,21 +62,22 @@ good n ys h =
     fit = leb-true n (length ys) (both-true (leb n (length ys)) (rising (take n ys)) h .0)
 
 -- ---- the run of an insertion lies within the slice
-inside-at : (n at len : ℕ) (r : Entry) (s f l : Bool) → (s ≡ true → n ≤ len) → (l ≡ true → n < len) → at ≤ n → (f ≡ true → at < n)
+inside-at : (n at len : ℕ) (r : Entry) (s f l : Bool) → (s ≡ true → n ≤ len) → (l ≡ true → n < len) → (s ≡ true → at ≤ n)
+    → (s ≡ true → f ≡ true → at < n)
     → inside (insertionBy n at r s f l .down) (insertionBy n at r s f l .from) (insertionBy n at r s f l .count) len
-inside-at n at len r true true l h₁ h₂ h₃ h₄ = omega (arith, h₁ refl, h₄ refl)
-inside-at n at len r true false true h₁ h₂ h₃ h₄ = omega (arith, h₂ refl)
+inside-at n at len r true true l h₁ h₂ h₃ h₄ = omega (arith, h₁ refl, h₄ refl refl)
+inside-at n at len r true false true h₁ h₂ h₃ h₄ = omega (arith, h₂ refl, h₃ refl)
 inside-at n at len r true false false h₁ h₂ h₃ h₄ = omega arith
 inside-at n at len r false f l h₁ h₂ h₃ h₄ = omega arith
 
 pub insertion-inside : (r : Entry) (n : ℕ) (ys : List Entry)
-    → inside (insertionOf (scanOf (keyOf r) n 0 ys) r .down) (insertionOf (scanOf (keyOf r) n 0 ys) r .from) (insertionOf (scanOf
-    (keyOf r) n 0 ys) r .count) (length ys)
+    → inside (insertionOf (scanOf (keyOf r) n ys) r .down) (insertionOf (scanOf (keyOf r) n ys) r .from) (insertionOf (scanOf
+    (keyOf r) n ys) r .count) (length ys)
 insertion-inside r n ys = subst (λ (w : Plan). inside (w .down) (w .from) (w .count) (length ys)) (sym (insertion-is r n ys))
     (inside-at n (length (before (keyOf r) (take n ys))) (length ys) r (sound n ys) (nonempty (holders (keyOf r) (take n ys))) (ltb n (length ys))
     (λ e. good n ys e .fits) (ltb-true n (length ys))
-    (omega (arith, scan-placed (keyOf r) n 0 ys .0, scan-at (keyOf r) n 0 ys, scan-n (keyOf r) n 0 ys))
-    (λ e. omega (arith, scan-placed (keyOf r) n 0 ys .1 (scan-found (keyOf r) n 0 ys ∙ e), scan-at (keyOf r) n 0 ys, scan-n (keyOf r) n 0 ys)))
+    (λ s. omega (arith, scan-placed (keyOf r) n ys .0, scan-at (keyOf r) n ys s, scan-n (keyOf r) n ys))
+    (λ s e. omega (arith, scan-placed (keyOf r) n ys .1 (scan-found (keyOf r) n ys s ∙ e), scan-at (keyOf r) n ys s, scan-n (keyOf r) n ys)))
 
 -- ---- how many records there are after an insertion
 inserted-length : (r : Entry) (xs : List Entry) → length (inserted r xs) ≡ length (before (keyOf r) xs) + suc (length (after (keyOf r) xs))
@@ -97,7 +106,7 @@ outcome-at n at r true false true zs h₁ h₂ = ap {B = Changed} (λ (j : ℕ).
 outcome-at n at r true false false zs h₁ h₂ = refl
 outcome-at n at r false f l zs h₁ h₂ = refl
 
-pub insertion-outcome : (r : Entry) (n : ℕ) (ys : List Entry) → outcomeOf (insertionOf (scanOf (keyOf r) n 0 ys) r) ≡ insertOf r n ys
+pub insertion-outcome : (r : Entry) (n : ℕ) (ys : List Entry) → outcomeOf (insertionOf (scanOf (keyOf r) n ys) r) ≡ insertOf r n ys
 insertion-outcome r n ys =
     ap outcomeOf (insertion-is r n ys)
     ∙ outcome-at n (length (before (keyOf r) (take n ys))) r (sound n ys) (nonempty (holders (keyOf r) (take n ys))) (ltb n (length ys)) (inserted r
@@ -161,47 +170,45 @@ list-at n at r true false false zs ys h₁ h₂ = refl
 list-at n at r false f l zs ys h₁ h₂ = refl
 
 pub insertion-list : (r : Entry) (n : ℕ) (ys : List Entry)
-    → rolled (insertionOf (scanOf (keyOf r) n 0 ys) r .count) (insertionOf (scanOf (keyOf r) n 0 ys) r .down) (insertionOf (scanOf
-    (keyOf r) n 0 ys) r .from) (insertionOf (scanOf (keyOf r) n 0 ys) r .first) ys ≡ insertedList r n ys
+    → rolled (insertionOf (scanOf (keyOf r) n ys) r .count) (insertionOf (scanOf (keyOf r) n ys) r .down) (insertionOf (scanOf
+    (keyOf r) n ys) r .from) (insertionOf (scanOf (keyOf r) n ys) r .first) ys ≡ insertedList r n ys
 insertion-list r n ys = ap (λ (w : Plan). rolled (w .count) (w .down) (w .from) (w .first) ys) (insertion-is r n ys)
     ∙ list-at n (length (before (keyOf r) (take n ys))) r (sound n ys) (nonempty (holders (keyOf r) (take n ys))) (ltb n (length ys)) (inserted r
     (take n ys)) ys (λ s f. replaced r n ys (good n ys s) f) (λ s f l. grown r n ys (good n ys s) f (ltb-true n (length ys) l))
 
 -- ---- deletion
 -- the record that the pass found has the cob, where the keys rise, exactly if a record matches
-match-is : (r : Entry) (xs : List Entry) (f : Bool) (c : ℕ) → rising xs ≡ true → f ≡ nonempty (holders (keyOf r) xs)
-    → heldOr f c (heldCob []) ≡ heldCob (holders (keyOf r) xs) → both f (eqb c (r .cob)) ≡ nonempty (matches r xs)
+match-is : (r : Entry) (xs : List Entry) (f : Bool) (c : Wide) → rising xs ≡ true → f ≡ nonempty (holders (keyOf r) xs)
+    → (f ≡ true → c ≡ cobOf (holders (keyOf r) xs)) → both f (wideEq c (r .cob)) ≡ nonempty (matches r xs)
 match-is r xs f c h e g = by-split (split (keyOf r) xs h)
   where
     one : (b : Bool) (z : Entry) → b ≡ nonempty (pick b (z ∷ []) [])
     one true z = refl
     one false z = refl
 
-    there : (z : Entry) → f ≡ true → heldOr f c (heldCob []) ≡ heldCob (z ∷ []) → both f (eqb c (r .cob)) ≡ eqb (z .cob) (r .cob)
-    there z t s =
-        ap (λ (b : Bool). both b (eqb c (r .cob))) t
-        ∙ ap (λ (j : ℕ). eqb j (r .cob)) (ap (λ (y : Found). y .cob) (sym (ap (λ (b : Bool). heldOr b c (heldCob [])) t) ∙ s))
-
-    by-split : Split (keyOf r) xs → both f (eqb c (r .cob)) ≡ nonempty (matches r xs)
+    by-split : Split (keyOf r) xs → both f (wideEq c (r .cob)) ≡ nonempty (matches r xs)
     by-split (new n p) =
-        ap (λ (b : Bool). both b (eqb c (r .cob))) (e ∙ ap nonempty n)
-        ∙ sym (ap (λ (l : List Entry). nonempty (passing (λ x. eqb (x .cob) (r .cob)) l)) n)
+        ap (λ (b : Bool). both b (wideEq c (r .cob))) (e ∙ ap nonempty n)
+        ∙ sym (ap (λ (l : List Entry). nonempty (passing (λ x. wideEq (x .cob) (r .cob)) l)) n)
     by-split (old z k n p) =
-        there z (e ∙ ap nonempty n) (g ∙ ap heldCob n) ∙ one (eqb (z .cob) (r .cob)) z
-        ∙ sym (ap (λ (l : List Entry). nonempty (passing (λ x. eqb (x .cob) (r .cob)) l)) n)
+        ap (λ (b : Bool). both b (wideEq c (r .cob))) (e ∙ ap nonempty n)
+        ∙ ap (λ (w : Wide). wideEq w (r .cob)) (g (e ∙ ap nonempty n) ∙ ap cobOf n) ∙ one (wideEq (z .cob) (r .cob)) z
+        ∙ sym (ap (λ (l : List Entry). nonempty (passing (λ x. wideEq (x .cob) (r .cob)) l)) n)
 
-matched-by : (n at : ℕ) (r : Entry) (s m m′ : Bool) → (s ≡ true → m ≡ m′) → deletionBy n at r s m ≡ deletionBy n at r s m′
-matched-by n at r true m m′ h = ap (deletionBy n at r true) (h refl)
-matched-by n at r false m m′ h = refl
+deletion-by : (n at at′ : ℕ) (r : Entry) (s m m′ : Bool) → (s ≡ true → at ≡ at′) → (s ≡ true → m ≡ m′)
+    → deletionBy n at r s m ≡ deletionBy n at′ r s m′
+deletion-by n at at′ r true m m′ p h = ap (λ (j : ℕ). deletionBy n j r true m) (p refl) ∙ ap (deletionBy n at′ r true) (h refl)
+deletion-by n at at′ r false m m′ p h = refl
 
 pub deletion-is : (r : Entry) (n : ℕ) (ys : List Entry)
-    → deletionOf (scanOf (keyOf r) n 0 ys) r ≡ deletionBy n (length (before (keyOf r) (take n ys))) r (sound n ys) (nonempty (matches r (take n ys)))
+    → deletionOf (scanOf (keyOf r) n ys) r ≡ deletionBy n (length (before (keyOf r) (take n ys))) r (sound n ys) (nonempty (matches r (take n ys)))
 unfolding deletionOf
-deletion-is r n ys = cc (scan-n (keyOf r) n 0 ys, scan-sound (keyOf r) n 0 ys, scan-at (keyOf r) n 0 ys)
-    ∙ matched-by n (length (before (keyOf r) (take n ys))) r (sound n ys) (both (scanOf (keyOf r) n 0 ys .found) (eqb (scanOf (keyOf r) n 0 ys .cob)
-    (r .cob))) (nonempty (matches r (take n ys)))
-    (λ s. match-is r (take n ys) (scanOf (keyOf r) n 0 ys .found) (scanOf (keyOf r) n 0 ys .cob) (good n ys s .rises) (scan-found (keyOf r) n 0 ys)
-    (scan-held (keyOf r) n 0 ys))
+deletion-is r n ys =
+    cc (scan-n (keyOf r) n ys, scan-sound (keyOf r) n ys)
+    ∙ deletion-by n (scanOf (keyOf r) n ys .at) (length (before (keyOf r) (take n ys))) r (sound n ys) (both (scanOf (keyOf r) n ys .found) (wideEq
+    (scanOf (keyOf r) n ys .cob) (r .cob))) (nonempty (matches r (take n ys))) (scan-at (keyOf r) n ys)
+    (λ s. match-is r (take n ys) (scanOf (keyOf r) n ys .found) (scanOf (keyOf r) n ys .cob) (good n ys s .rises) (scan-found (keyOf r) n ys s)
+    (scan-cob (keyOf r) n ys s))
 
 -- what an accepted deletion knows
 pub record Gone (r : Entry) (n : ℕ) (ys : List Entry) : Type 0 where
@@ -213,7 +220,7 @@ pub gone : (r : Entry) (n : ℕ) (ys : List Entry) → sound n ys ≡ true → n
 gone r n ys s m = by-split (split (keyOf r) (take n ys) (good n ys s .rises))
   where
     by-split : Split (keyOf r) (take n ys) → Gone r n ys
-    by-split (new e p) = absurd (false≢true (sym (ap (λ (l : List Entry). nonempty (passing (λ x. eqb (x .cob) (r .cob)) l)) e) ∙ m))
+    by-split (new e p) = absurd (false≢true (sym (ap (λ (l : List Entry). nonempty (passing (λ x. wideEq (x .cob) (r .cob)) l)) e) ∙ m))
     by-split (old z k e p) =
         record {
           h = z;
@@ -229,8 +236,8 @@ delete-inside-at n at len r true false h₁ h₂ = omega arith
 delete-inside-at n at len r false m h₁ h₂ = omega arith
 
 pub deletion-inside : (r : Entry) (n : ℕ) (ys : List Entry)
-    → inside (deletionOf (scanOf (keyOf r) n 0 ys) r .down) (deletionOf (scanOf (keyOf r) n 0 ys) r .from) (deletionOf (scanOf
-    (keyOf r) n 0 ys) r .count) (length ys)
+    → inside (deletionOf (scanOf (keyOf r) n ys) r .down) (deletionOf (scanOf (keyOf r) n ys) r .from) (deletionOf (scanOf
+    (keyOf r) n ys) r .count) (length ys)
 deletion-inside r n ys = subst (λ (w : Plan). inside (w .down) (w .from) (w .count) (length ys)) (sym (deletion-is r n ys))
     (delete-inside-at n (length (before (keyOf r) (take n ys))) (length ys) r (sound n ys) (nonempty (matches r (take n ys)))
     (λ s. good n ys s .fits) (λ s m. omega (arith, gone r n ys s m .size)))
@@ -242,7 +249,7 @@ delete-outcome-at n at r true true zs h = ap {B = Changed} (λ (j : ℕ). record
 delete-outcome-at n at r true false zs h = refl
 delete-outcome-at n at r false m zs h = refl
 
-pub deletion-outcome : (r : Entry) (n : ℕ) (ys : List Entry) → outcomeOf (deletionOf (scanOf (keyOf r) n 0 ys) r) ≡ deleteOf r n ys
+pub deletion-outcome : (r : Entry) (n : ℕ) (ys : List Entry) → outcomeOf (deletionOf (scanOf (keyOf r) n ys) r) ≡ deleteOf r n ys
 deletion-outcome r n ys =
     ap outcomeOf (deletion-is r n ys)
     ∙ delete-outcome-at n (length (before (keyOf r) (take n ys))) r (sound n ys) (nonempty (matches r (take n ys))) (removed r (take n ys))
@@ -282,8 +289,8 @@ delete-list-at n at r true false zs ys h = refl
 delete-list-at n at r false m zs ys h = refl
 
 pub deletion-list : (r : Entry) (n : ℕ) (ys : List Entry)
-    → rolled (deletionOf (scanOf (keyOf r) n 0 ys) r .count) (deletionOf (scanOf (keyOf r) n 0 ys) r .down) (deletionOf (scanOf
-    (keyOf r) n 0 ys) r .from) (deletionOf (scanOf (keyOf r) n 0 ys) r .first) ys ≡ deletedList r n ys
+    → rolled (deletionOf (scanOf (keyOf r) n ys) r .count) (deletionOf (scanOf (keyOf r) n ys) r .down) (deletionOf (scanOf
+    (keyOf r) n ys) r .from) (deletionOf (scanOf (keyOf r) n ys) r .first) ys ≡ deletedList r n ys
 deletion-list r n ys = ap (λ (w : Plan). rolled (w .count) (w .down) (w .from) (w .first) ys) (deletion-is r n ys)
     ∙ delete-list-at n (length (before (keyOf r) (take n ys))) r (sound n ys) (nonempty (matches r (take n ys))) (removed r
     (take n ys) ++ blank ∷ []) ys (λ s m. shrunk r n ys s (gone r n ys s m))

@@ -13,6 +13,7 @@ use Rattle.lists.specs.Passing.{passing-yes, passing-no, passing-append, passin
 use Rattle.lists.specs.Refusal.{grant}
 use Rattle.entries.specs.declared.Entry.{Entry}
 use Rattle.entries.specs.declared.Key.{Key}
+use Rattle.entries.specs.Wide.{nought}
 use Rattle.entries.specs.Blank.{blank}
 use Rattle.entries.specs.Key.{keyOf, keyLt, keyEq, rising, risingFrom}
 use Rattle.entries.specs.Orders.{Lt, lt-of, lt-trans, lt-irrefl, lt-ne, gt-ne, eq-refl, Cmp, below, equal, above, cmp, same, less}
@@ -235,7 +236,7 @@ removed-other : (j : Key) (r : Entry) (xs : List Entry) → keyEq (keyOf r) j �
 removed-other j r xs n h = passing-append (λ x. keyEq (keyOf x) j) (before (keyOf r) xs) (after (keyOf r) xs) ∙ sym (parts-other j (keyOf r) xs n h)
 
 sound-lookup : (j : Key) (n : ℕ) (ys : List Entry) → sound n ys ≡ true → lookupOf j n ys ≡ heldCob (holders j (take n ys))
-sound-lookup j n ys s = found-is (sound n ys) (holders j (take n ys)) ∙ ap (λ (b : Bool). pick b (heldCob (holders j (take n ys))) (foundBy 9 0)) s
+sound-lookup j n ys s = found-is (sound n ys) (holders j (take n ys)) ∙ ap (λ (b : Bool). pick b (heldCob (holders j (take n ys))) (foundBy 9 nought)) s
 
 kept-lookup : (j : Key) (m : ℕ) (zs ws : List Entry) → Kept m zs ws → lookupOf j m ws ≡ heldCob (holders j zs)
 kept-lookup j m zs ws t = sound-lookup j m ws (t .legal) ∙ ap (λ (l : List Entry). heldCob (holders j l)) (t .first)
@@ -256,7 +257,7 @@ module _ (r : Entry) (n : ℕ) (ys : List Entry) (s : sound n ys ≡ true) where
       kept-lookup j (insertOf r n ys .count) (inserted r (take n ys)) (insertedList r n ys) (insert-kept r n ys rises e)
       ∙ ap heldCob (inserted-other j r (take n ys) d rises) ∙ sym (sound-lookup j n ys s)
 
-  pub lookup-deleted : deleteNumber r n ys ≡ 0 → lookupOf (keyOf r) (deleteOf r n ys .count) (deletedList r n ys) ≡ record { refusal = 11; cob = 0 }
+  pub lookup-deleted : deleteNumber r n ys ≡ 0 → lookupOf (keyOf r) (deleteOf r n ys .count) (deletedList r n ys) ≡ record { refusal = 11; cob = nought }
   lookup-deleted e =
       kept-lookup (keyOf r) (deleteOf r n ys .count) (removed r (take n ys)) (deletedList r n ys) (delete-kept r n ys rises e)
       ∙ ap heldCob (removed-same r (take n ys))

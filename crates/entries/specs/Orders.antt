@@ -1,45 +1,47 @@
 -- The order of the keys: all that the laws below use of it.
 use mathlib.Core.Path.{_≡_, refl, sym, ap, _∙_, subst}
-use Prim.Native.Nat.{ℕ, _≤_, _<_}
+use Prim.Native.Nat.{ℕ, _<_}
 use native.Mathlib.Omega.{arith}
 use mathlib.Core.Bool.{Bool, true, false, not}
-use lib.Dec.{ltb, leb, eqb}
-use lib.Arith.{lt-of-le-ne}
-use borrow.Author.Tests.{ltb-true, ltb-false, eqb-true, eqb-false, lt-ltb, le-ltb, le-leb, lt-leb, eq-eqb, ne-eqb}
-use Rattle.lists.specs.Pick.{pick, both, clash, below-or-not, pick-true, pick-false}
+use lib.Dec.{ltb, eqb}
+use borrow.Author.Tests.{ltb-true, ltb-false, eqb-true, eqb-false, lt-ltb, le-ltb, eq-eqb, ne-eqb}
+use Rattle.lists.specs.Pick.{pick, both, clash}
+use Rattle.entries.specs.declared.Wide.{Wide}
 use Rattle.entries.specs.declared.Key.{Key}
+use Rattle.entries.specs.Wide.{wideLt, wideEq}
+use Rattle.entries.specs.WideOrder.{WideLt, wide-lt-of, of-wide-lt, wide-trans, wide-irrefl, not-wide-lt, wide-eq-of, wide-eq-refl, wide-more}
 use Rattle.entries.specs.Key.{keyLt, keyEq, listable}
 
 -- the order, said with numbers
 pub data Lt (a b : Key) : Type 0 where
   by-device : a .device < b .device → Lt a b
-  by-file : a .device ≡ b .device → a .file < b .file → Lt a b
+  by-file : a .device ≡ b .device → WideLt (a .file) (b .file) → Lt a b
 
 pub lt-of : (a b : Key) → keyLt a b ≡ true → Lt a b
 unfolding keyLt
 lt-of a b h = first (ltb (a .device) (b .device)) (ltb (b .device) (a .device)) refl refl h
   where
     first : (s t : Bool) → ltb (a .device) (b .device) ≡ s → ltb (b .device) (a .device) ≡ t
-        → pick s true (pick t false (ltb (a .file) (b .file))) ≡ true → Lt a b
+        → pick s true (pick t false (wideLt (a .file) (b .file))) ≡ true → Lt a b
     first true t p q e = by-device (ltb-true _ _ p)
     first false true p q e = let z : _≡_ {A = ℕ} 0 1 = cc in absurd (omega arith)
     first false false p q e =
-        by-file (omega (arith, ltb-false (a .device) (b .device) p, ltb-false (b .device) (a .device) q)) (ltb-true (a .file) (b .file) e)
+        by-file (omega (arith, ltb-false (a .device) (b .device) p, ltb-false (b .device) (a .device) q)) (wide-lt-of (a .file) (b .file) e)
 
 pub of-lt : {a b : Key} → Lt a b → keyLt a b ≡ true
 unfolding keyLt
 of-lt (by-device l) = simp (lt-ltb _ _ l)
-of-lt {a} {b} (by-file e l) = simp (le-ltb (a .device) (b .device) (omega arith), le-ltb (b .device) (a .device) (omega arith), lt-ltb _ _ l)
+of-lt {a} {b} (by-file e l) = simp (le-ltb (a .device) (b .device) (omega arith), le-ltb (b .device) (a .device) (omega arith), of-wide-lt l)
 
 pub lt-trans : {a b c : Key} → Lt a b → Lt b c → Lt a c
 lt-trans (by-device p) (by-device q) = by-device (omega arith)
 lt-trans (by-device p) (by-file e q) = by-device (omega arith)
 lt-trans (by-file e p) (by-device q) = by-device (omega arith)
-lt-trans (by-file e p) (by-file f q) = by-file (e ∙ f) (omega arith)
+lt-trans (by-file e p) (by-file f q) = by-file (e ∙ f) (wide-trans p q)
 
 pub lt-irrefl : {a : Key} → Lt a a → ⊥
 lt-irrefl (by-device p) = omega arith
-lt-irrefl (by-file e p) = omega arith
+lt-irrefl (by-file e p) = wide-irrefl p
 
 pub not-lt : (a b : Key) → (Lt a b → ⊥) → keyLt a b ≡ false
 not-lt a b h = by-test (keyLt a b) refl
@@ -51,34 +53,34 @@ not-lt a b h = by-test (keyLt a b) refl
 -- equal keys
 pub eq-of : (a b : Key) → keyEq a b ≡ true → a ≡ b
 unfolding keyEq
-eq-of a b h = fields (eqb (a .device) (b .device)) (eqb (a .file) (b .file)) refl refl h
+eq-of a b h = fields (eqb (a .device) (b .device)) (wideEq (a .file) (b .file)) refl refl h
   where
-    fields : (s t : Bool) → eqb (a .device) (b .device) ≡ s → eqb (a .file) (b .file) ≡ t → both s t ≡ true → a ≡ b
+    fields : (s t : Bool) → eqb (a .device) (b .device) ≡ s → wideEq (a .file) (b .file) ≡ t → both s t ≡ true → a ≡ b
     fields true true p q e =
         ap {B = Key} (λ (d : ℕ). record { device = d; file = a .file }) (eqb-true (a .device) (b .device) p)
-        ∙ ap {B = Key} (λ (f : ℕ). record { device = b .device; file = f }) (eqb-true (a .file) (b .file) q)
+        ∙ ap {B = Key} (λ (f : Wide). record { device = b .device; file = f }) (wide-eq-of (a .file) (b .file) q)
     fields true false p q e = let z : _≡_ {A = ℕ} 0 1 = cc in absurd (omega arith)
     fields false t p q e = let z : _≡_ {A = ℕ} 0 1 = cc in absurd (omega arith)
 
 pub eq-refl : (a : Key) → keyEq a a ≡ true
 unfolding keyEq
-eq-refl a = simp (eq-eqb (a .device) (a .device) refl, eq-eqb (a .file) (a .file) refl)
+eq-refl a = simp (eq-eqb (a .device) (a .device) refl, wide-eq-refl (a .file))
 
 -- of two keys one is below, or they are equal
 pub more-than : (a b : Key) → keyEq a b ≡ false → keyLt a b ≡ false → Lt b a
 unfolding keyLt keyEq
 more-than a b p q =
-    go (ltb (a .device) (b .device)) (ltb (b .device) (a .device)) (ltb (a .file) (b .file)) (eqb (a .device) (b .device)) (eqb (a .file)
+    go (ltb (a .device) (b .device)) (ltb (b .device) (a .device)) (wideLt (a .file) (b .file)) (eqb (a .device) (b .device)) (wideEq (a .file)
     (b .file)) refl refl refl refl refl p q
   where
-    go : (s t u v w : Bool) → ltb (a .device) (b .device) ≡ s → ltb (b .device) (a .device) ≡ t → ltb (a .file) (b .file) ≡ u
-        → eqb (a .device) (b .device) ≡ v → eqb (a .file) (b .file) ≡ w → both v w ≡ false → pick s true (pick t false u) ≡ false → Lt b a
+    go : (s t u v w : Bool) → ltb (a .device) (b .device) ≡ s → ltb (b .device) (a .device) ≡ t → wideLt (a .file) (b .file) ≡ u
+        → eqb (a .device) (b .device) ≡ v → wideEq (a .file) (b .file) ≡ w → both v w ≡ false → pick s true (pick t false u) ≡ false → Lt b a
     go true t u v w e₁ e₂ e₃ e₄ e₅ p q = let z : _≡_ {A = ℕ} 0 1 = cc in absurd (omega arith)
     go false true u v w e₁ e₂ e₃ e₄ e₅ p q = by-device (ltb-true _ _ e₂)
     go false false true v w e₁ e₂ e₃ e₄ e₅ p q = let z : _≡_ {A = ℕ} 0 1 = cc in absurd (omega arith)
     go false false false true true e₁ e₂ e₃ e₄ e₅ p q = let z : _≡_ {A = ℕ} 0 1 = cc in absurd (omega arith)
     go false false false true false e₁ e₂ e₃ e₄ e₅ p q =
-        by-file (sym (eqb-true _ _ e₄)) (lt-of-le-ne (ltb-false _ _ e₃) (λ h. eqb-false _ _ e₅ (sym h)))
+        by-file (sym (eqb-true _ _ e₄)) (wide-more (a .file) (b .file) e₅ e₃)
     go false false false false w e₁ e₂ e₃ e₄ e₅ p q =
         absurd (eqb-false (a .device) (b .device) e₄ (omega (arith, ltb-false (a .device) (b .device) e₁, ltb-false (b .device) (a .device) e₂)))
 
@@ -139,7 +141,7 @@ le-lt (less m) l = lt-trans m l
 pub lt-no : {k a : Key} → Lt a k → listable k a ≡ false
 unfolding listable
 lt-no {k} {a} (by-device l) = simp (ne-eqb (a .device) (k .device) (λ e. omega (arith, e)))
-lt-no {k} {a} (by-file e l) = simp (eq-eqb (a .device) (k .device) e, lt-leb (k .file) (a .file) l)
+lt-no {k} {a} (by-file e l) = simp (eq-eqb (a .device) (k .device) e, of-wide-lt l)
 
 pub far-no : (k a : Key) → k .device < a .device → listable k a ≡ false
 unfolding listable
@@ -156,32 +158,10 @@ pub data Reach (k a : Key) : Type 0 where
 
 pub reach : {k a : Key} → Le k a → Reach k a
 unfolding listable
-reach {k} {a} (same e) =
-    near (simp (
-      eq-eqb (a .device) (k .device) (ap (λ (z : Key). z .device) (sym e)),
-      le-leb (k .file) (a .file) (omega (
-        arith,
-        ap (λ
-            (z : Key). z .file) e,
-      )),
-    ))
+reach {k} {a} (same e) = near (simp (eq-eqb (a .device) (k .device) (ap (λ (z : Key). z .device) (sym e)), not-wide-lt (a .file) (k .file) at))
+  where
+    at : WideLt (a .file) (k .file) → ⊥
+    at l = wide-irrefl (subst (λ (z : Key). WideLt (a .file) (z .file)) e l)
 reach {k} {a} (less (by-device l)) = far l
-reach {k} {a} (less (by-file e l)) = near (simp (eq-eqb (a .device) (k .device) (sym e), le-leb (k .file) (a .file) (omega arith)))
-
--- of the device of k, what is not below k is listed
-not-below : (a b : ℕ) → not (ltb a b) ≡ leb b a
-not-below a b =
-    below-or-not a b (λ (l : a < b). ap not (lt-ltb a b l) ∙ sym (lt-leb b a l)) (λ (l : b ≤ a). ap not (le-ltb a b l) ∙ sym (le-leb b a l))
-
-pub listed-by : (k a : Key) → a .device ≡ k .device → not (keyLt a k) ≡ listable k a
-unfolding keyLt listable
-listed-by k a e =
-    ap not
-    (pick-false (ltb (a .device) (k .device)) true _ (le-ltb (a .device) (k .device) (omega arith))
-    ∙ pick-false (ltb (k .device) (a .device)) false _ (le-ltb (k .device) (a .device) (omega arith)))
-    ∙ not-below (a .file) (k .file)
-    ∙ sym (pick-true (eqb (a .device) (k .device)) (leb (k .file) (a .file)) false (eq-eqb (a .device) (k .device) e))
-
-pub listed-far : (k a : Key) → (a .device ≡ k .device → ⊥) → listable k a ≡ false
-unfolding listable
-listed-far k a n = pick-false (eqb (a .device) (k .device)) (leb (k .file) (a .file)) false (ne-eqb (a .device) (k .device) n)
+reach {k} {a} (less (by-file e l)) =
+    near (simp (eq-eqb (a .device) (k .device) (sym e), not-wide-lt (a .file) (k .file) (λ m. wide-irrefl (wide-trans l m))))

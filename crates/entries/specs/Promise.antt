@@ -2,6 +2,7 @@
 use mathlib.Core.Path.{_≡_}
 use mathlib.Core.List.{List}
 use Prim.Native.Nat.{ℕ}
+use Rattle.entries.specs.declared.Wide.{Wide}
 use Rattle.entries.specs.declared.Entry.{Entry}
 use Rattle.entries.specs.declared.Key.{Key}
 use Rattle.entries.specs.declared.Found.{Found}
@@ -22,6 +23,6 @@ pub record Delete (r : Entry) (n : ℕ) (ys : List Entry) (done : Changed) (zs :
   pub slots : zs ≡ deletedList r n ys
 
 -- the records are only read
-pub record Listing (k : Key) (n : ℕ) (ys : List Entry) (old : List ℕ) (page : Page) (new : List ℕ) : Type 0 where
+pub record Listing (k : Key) (n : ℕ) (ys : List Entry) (old : List Wide) (page : Page) (new : List Wide) : Type 0 where
   pub answer : page ≡ listingOf k n ys old
   pub output : new ≡ listedOut k n ys old

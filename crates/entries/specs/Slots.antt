@@ -45,7 +45,7 @@ module _ (r : Entry) (n : ℕ) (ys : List Entry) (i : ℕ) (d : Entry) (above : 
             (take n ys)) (after (keyOf r) (take n ys)),
       ))
 
--- "the slot it frees at the end becomes three zeros": the slot at the new count
+-- "the slot it frees at the end becomes three zeros", the words of its pairs among them: the slot at the new count
 pub delete-frees : (r : Entry) (n : ℕ) (ys : List Entry) (d : Entry) → deleteNumber r n ys ≡ 0
     → getD (deletedList r n ys) (deleteOf r n ys .count) d ≡ blank
 delete-frees r n ys d e =

@@ -1,39 +1,79 @@
-// The records of the catalogue by value: their order, what one pass over them keeps, and what each call makes of it. Every decision of
+// The records of the catalogue by value: their order, where a search goes on, and what each call makes of what it finds. Every decision of
 // the catalogue falls here, on values; the crate `catalogue` runs over the slices.
 ghost use mathlib.Core.Path.{_≡_};
-ghost use mathlib.Core.Bool.{_||_};
 ghost use Prim.Native.Nat.{_<_, _≤_, _+_, _^_};
-ghost use lib.Dec.{eqb};
-ghost use lib.ListN.{length};
+ghost use Rattle.lists.specs.Pick.{both as bothOf};
+ghost use Rattle.entries.specs.Wide.{wideLt, wideEq};
 ghost use Rattle.entries.specs.Blank.{blank};
-ghost use Rattle.entries.specs.Key.{keyOf, keyLt, keyEq, listable};
-ghost use Rattle.entries.specs.Look.{leastOf, firstOf, fewerOf, beyondOf, risesOf, countedOf, startOf, stepOf, soundOf};
-ghost use Rattle.entries.specs.Listed.{wiped};
-ghost use Rattle.entries.specs.Plans.{answerOf, placed, idleOf, insertionOf, deletionOf, outcomeOf, shownOf, reportOf};
+ghost use Rattle.entries.specs.Key.{keyOf, keyLt, keyEq};
+ghost use Rattle.entries.specs.Pass.{freshPass, risesOf, passOf};
+ghost use Rattle.entries.specs.Span.{pastOf, spanOf, halfOf};
+ghost use Rattle.entries.specs.Look.{trustedOf, lookOf};
+ghost use Rattle.entries.specs.Plans.{answerOf, placed, idleOf, insertionOf, deletionOf, outcomeOf, shownOf, continuedOf, reportOf};
 ghost use Rattle.entries.specs.Roll.{movedTo};
+
+// The number of a file or of a cob, 128 bits wide: two words, the first the more significant.
+#[repr(C)]
+pub struct Wide {
+    pub first: u64,
+    pub second: u64,
+}
 
 // A record of the catalogue: the component object of a file on a device.
 #[repr(C)]
 pub struct Entry {
     pub device: u64,
-    pub file: u64,
-    pub cob: u64,
+    pub file: Wide,
+    pub cob: Wide,
 }
 
 // What a record is found by. A listing takes one too: the device, and the first file number.
 #[repr(C)]
 pub struct Key {
     pub device: u64,
-    pub file: u64,
+    pub file: Wide,
 }
 
 pub fn key_of(r: Entry) -> Key
     ensures { λ k. ⌜ k ≡ keyOf r ⌝ }
 {
+    let file = r.file;
     Key {
         device: r.device,
-        file: r.file,
+        file: file,
     }
+}
+
+// Five zeros.
+pub fn blank_entry() -> Entry
+    ensures { λ r. ⌜ r ≡ blank ⌝ }
+{
+    let nought = Wide {
+        first: 0,
+        second: 0,
+    };
+    Entry {
+        device: 0,
+        file: nought,
+        cob: nought,
+    }
+}
+
+// The order of two wide numbers.
+pub fn lower(a: Wide, b: Wide) -> bool
+    ensures { λ r. ⌜ r ≡ wideLt a b ⌝ }
+{
+    let fa = a.first;
+    let fb = b.first;
+    let sa = a.second;
+    let sb = b.second;
+    if fa < fb {
+        return true;
+    }
+    if fb < fa {
+        return false;
+    }
+    sa < sb
 }
 
 // The order of the keys: no other function looks into a file number.
@@ -42,15 +82,14 @@ pub fn below(a: Key, b: Key) -> bool
 {
     let da = a.device;
     let db = b.device;
-    let fa = a.file;
-    let fb = b.file;
+    let by_file = lower(a.file, b.file);
     if da < db {
         return true;
     }
     if db < da {
         return false;
     }
-    fa < fb
+    by_file
 }
 
 pub fn same(a: Key, b: Key) -> bool
@@ -64,162 +103,153 @@ pub fn same(a: Key, b: Key) -> bool
     !higher
 }
 
-// Whether a listing from k on has a record of the key a in it.
-pub fn is_listed(k: Key, a: Key) -> bool
-    ensures { λ r. ⌜ r ≡ listable k a ⌝ }
+pub fn both(a: bool, b: bool) -> bool
+    ensures { λ r. ⌜ r ≡ bothOf a b ⌝ }
 {
-    let lower = below(a, k);
-    let da = a.device;
-    let dk = k.device;
-    if da == dk {
-        return !lower;
-    }
-    false
+    if a { b } else { false }
 }
 
 // No other function looks into a cob number.
-pub fn same_cob(a: u64, b: u64) -> bool
-    ensures { λ r. ⌜ r ≡ eqb a b ⌝ }
+pub fn same_cob(a: Wide, b: Wide) -> bool
+    ensures { λ r. ⌜ r ≡ wideEq a b ⌝ }
 {
-    a == b
+    both(a.first == b.first, a.second == b.second)
 }
 
-pub fn either(a: bool, b: bool) -> bool
-    ensures { λ r. ⌜ r ≡ (a || b) ⌝ }
-{
-    if a { true } else { b }
+// ---- the pass that tests the order
+
+// The last key of the pass, and whether all so far rise.
+pub struct Pass {
+    pub begun: bool,
+    pub rising: bool,
+    pub last: Key,
 }
 
-// The old number, unless the new one is the first.
-pub fn first_of(had: bool, now: bool, old: u64, new: u64) -> u64
-    ensures { λ r. ⌜ r ≡ firstOf had now old new ⌝ }
+pub fn fresh() -> Pass
+    ensures { λ x. ⌜ x ≡ freshPass ⌝ }
 {
-    if had {
-        return old;
+    let first = key_of(blank_entry());
+    Pass {
+        begun: false,
+        rising: true,
+        last: first,
     }
-    if now { new } else { old }
-}
-
-pub fn fewer(left: usize, used: bool) -> usize
-    ensures { λ r. ⌜ r ≡ fewerOf left used ⌝ }
-{
-    if used {
-        if left == 0 { 0 } else { left - 1 }
-    } else {
-        left
-    }
-}
-
-pub fn beyond(left: usize, used: bool) -> bool
-    ensures { λ r. ⌜ r ≡ beyondOf left used ⌝ }
-{
-    if used { left == 0 } else { false }
 }
 
 pub fn rises(rising: bool, begun: bool, above: bool) -> bool
     ensures { λ r. ⌜ r ≡ risesOf rising begun above ⌝ }
 {
-    if rising {
-        if begun { above } else { true }
-    } else {
-        false
+    if begun {
+        return both(rising, above);
     }
-}
-
-pub fn counted(at: usize, more: bool) -> usize
-    requires { ⌜ at + 1 < 2 ^ 64 ⌝ }
-    ensures { λ r. ⌜ r ≡ countedOf at more ⌝ }
-{
-    if more { at + 1 } else { at }
-}
-
-// What a pass over the first records looks for, and what it found so far.
-pub struct Look {
-    pub n: usize,
-    pub len: usize,
-    // how many records the pass goes over
-    pub upto: usize,
-    pub key: Key,
-    pub last: Key,
-    pub begun: bool,
-    pub rising: bool,
-    // how many keys are below
-    pub at: usize,
-    pub found: bool,
-    pub cob: u64,
-    // how many places of a listing's output are free
-    pub left: usize,
-    pub more: bool,
-    pub next: u64,
-}
-
-pub fn least(a: usize, b: usize) -> usize
-    ensures { λ r. ⌜ r ≡ leastOf a b ⌝ }
-{
-    if a < b { a } else { b }
-}
-
-pub fn start(key: Key, n: usize, len: usize, room: usize) -> Look
-    ensures { λ x. ⌜ x ≡ startOf key n len room ⌝ }
-{
-    let upto = least(n, len);
-    Look {
-        n: n,
-        len: len,
-        upto: upto,
-        key: key,
-        last: key,
-        begun: false,
-        rising: true,
-        at: 0,
-        found: false,
-        cob: 0,
-        left: room,
-        more: false,
-        next: 0,
-    }
+    rising
 }
 
 // One record of the pass.
-pub fn step(x: Look, r: Entry) -> Look
-    requires { ⌜ x .at + 1 < 2 ^ 64 ⌝ }
-    ensures { λ y. ⌜ y ≡ stepOf x r ⌝ }
+pub fn passed(x: Pass, r: Entry) -> Pass
+    ensures { λ y. ⌜ y ≡ passOf x r ⌝ }
 {
-    let key = x.key;
     let last = x.last;
     let now = key_of(r);
-    let hit = same(now, key);
-    let used = is_listed(key, now);
-    let over = beyond(x.left, used);
     let rising = rises(x.rising, x.begun, below(last, now));
-    let at = counted(x.at, below(now, key));
-    let found = either(x.found, hit);
-    let cob = first_of(x.found, hit, x.cob, r.cob);
-    let left = fewer(x.left, used);
-    let more = either(x.more, over);
-    let next = first_of(x.more, over, x.next, r.file);
-    Look {
-        n: x.n,
-        len: x.len,
-        upto: x.upto,
-        key: key,
-        last: now,
+    Pass {
         begun: true,
         rising: rising,
-        at: at,
-        found: found,
-        cob: cob,
-        left: left,
-        more: more,
-        next: next,
+        last: now,
     }
 }
 
-// What a lookup answers: 0 and the cob, or the number of a refusal and 0.
+// ---- the search among keys that rise
+
+// Whether a search goes past the key a: it is below k or, of the whole device, on the device of k or one before it.
+pub fn is_past(k: Key, whole: bool, a: Key) -> bool
+    ensures { λ r. ⌜ r ≡ pastOf k whole a ⌝ }
+{
+    let lower = below(a, k);
+    let da = a.device;
+    let dk = k.device;
+    if whole { da <= dk } else { lower }
+}
+
+// The places between which a search still looks, and the one in their middle.
+pub struct Span {
+    pub low: usize,
+    pub at: usize,
+    pub high: usize,
+}
+
+pub fn between(low: usize, high: usize) -> Span
+    requires { ⌜ low ≤ high ⌝ }
+    ensures { λ x. ⌜ x ≡ spanOf low high ⌝ }
+{
+    Span {
+        low: low,
+        at: low + (high - low) / 2,
+        high: high,
+    }
+}
+
+// The half in which the search goes on, where r stands in the middle.
+pub fn halved(x: Span, key: Key, whole: bool, r: Entry) -> Span
+    requires { ⌜ (x .low ≤ x .at) × (x .at < x .high) ⌝ }
+    ensures { λ y. ⌜ y ≡ halfOf x (pastOf key whole (keyOf r)) ⌝ }
+{
+    let low = x.low;
+    let at = x.at;
+    let high = x.high;
+    let past = is_past(key, whole, key_of(r));
+    if past {
+        return between(at + 1, high);
+    }
+    between(low, at)
+}
+
+// ---- what a call finds
+
+// How many records may be searched: the count, or none where the catalogue is bad.
+pub fn trusted(n: usize, sound: bool) -> usize
+    ensures { λ m. ⌜ m ≡ trustedOf n sound ⌝ }
+{
+    if sound { n } else { 0 }
+}
+
+// What a call finds of its key.
+pub struct Look {
+    pub n: usize,
+    pub len: usize,
+    // no refusal 9
+    pub sound: bool,
+    // how many records were searched
+    pub upto: usize,
+    // how many keys are below
+    pub at: usize,
+    pub found: bool,
+    pub cob: Wide,
+}
+
+// Of the place that a search gave, and the record there.
+pub fn look_at(n: usize, len: usize, sound: bool, key: Key, at: usize, there: Entry) -> Look
+    ensures { λ x. ⌜ x ≡ lookOf n len sound key at there ⌝ }
+{
+    let upto = trusted(n, sound);
+    let found = both(at < upto, same(key_of(there), key));
+    let cob = there.cob;
+    Look {
+        n: n,
+        len: len,
+        sound: sound,
+        upto: upto,
+        at: at,
+        found: found,
+        cob: cob,
+    }
+}
+
+// What a lookup answers: 0 and the cob, or the number of a refusal and zeros.
 #[repr(C)]
 pub struct Found {
     pub refusal: u64,
-    pub cob: u64,
+    pub cob: Wide,
 }
 
 // What an insertion or a deletion answers: 0 and the new count, or the number of a refusal and the old count.
@@ -235,39 +265,34 @@ pub struct Page {
     pub refusal: u64,
     pub count: usize,
     pub more: bool,
-    pub next: u64,
-}
-
-// No refusal 9.
-pub fn is_sound(x: Look) -> bool
-    ensures { λ r. ⌜ r ≡ soundOf x ⌝ }
-{
-    let n = x.n;
-    let len = x.len;
-    let rising = x.rising;
-    if n <= len { rising } else { false }
+    pub next: Wide,
 }
 
 pub fn answer(x: Look) -> Found
     ensures { λ r. ⌜ r ≡ answerOf x ⌝ }
 {
-    let sound = is_sound(x);
+    let nought = Wide {
+        first: 0,
+        second: 0,
+    };
+    let sound = x.sound;
     let found = x.found;
     let cob = x.cob;
-    if sound {
-        if found {
-            Found {
-                refusal: 0,
-                cob: cob,
-            }
-        } else {
-            Found {
-                refusal: 11,
-                cob: 0,
-            }
-        }
-    } else {
-        Found { refusal: 9, cob: 0 }
+    if !sound {
+        return Found {
+            refusal: 9,
+            cob: nought,
+        };
+    }
+    if !found {
+        return Found {
+            refusal: 11,
+            cob: nought,
+        };
+    }
+    Found {
+        refusal: 0,
+        cob: cob,
     }
 }
 
@@ -299,7 +324,7 @@ pub fn insertion(x: Look, r: Entry) -> Plan
     requires { ⌜ placed x ⌝ }
     ensures { λ w. ⌜ w ≡ insertionOf x r ⌝ }
 {
-    let sound = is_sound(x);
+    let sound = x.sound;
     let n = x.n;
     let len = x.len;
     let at = x.at;
@@ -330,22 +355,11 @@ pub fn insertion(x: Look, r: Entry) -> Plan
     }
 }
 
-// Three zeros.
-pub fn blank_entry() -> Entry
-    ensures { λ r. ⌜ r ≡ blank ⌝ }
-{
-    Entry {
-        device: 0,
-        file: 0,
-        cob: 0,
-    }
-}
-
 pub fn deletion(x: Look, r: Entry) -> Plan
     requires { ⌜ placed x ⌝ }
     ensures { λ w. ⌜ w ≡ deletionOf x r ⌝ }
 {
-    let sound = is_sound(x);
+    let sound = x.sound;
     let matched = same_cob(x.cob, r.cob);
     let freed = blank_entry();
     let n = x.n;
@@ -399,58 +413,80 @@ pub struct Show {
     pub wiped: usize,
     pub refusal: u64,
     pub more: bool,
-    pub next: u64,
+    // where the first record stands that is left out, past the slice where none is
+    pub after: usize,
+    pub next: Wide,
 }
 
-pub fn shown(x: Look, room: usize) -> Show
-    requires { ⌜ x .left ≤ room ⌝ }
-    ensures { λ w. ⌜ w ≡ shownOf x room ⌝ }
+// Of the place where the device ends, and the room of the output.
+pub fn shown(x: Look, end: usize, room: usize) -> Show
+    requires { ⌜ x .at ≤ end ⌝ }
+    ensures { λ w. ⌜ w ≡ shownOf x end room ⌝ }
 {
-    let sound = is_sound(x);
+    let nought = Wide {
+        first: 0,
+        second: 0,
+    };
+    let sound = x.sound;
     let at = x.at;
-    let left = x.left;
-    let more = x.more;
-    let next = x.next;
-    if sound {
-        Show {
-            from: at,
-            count: room - left,
-            wiped: 0,
-            refusal: 0,
-            more: more,
-            next: next,
-        }
-    } else {
-        Show {
+    let len = x.len;
+    if !sound {
+        return Show {
             from: 0,
             count: 0,
             wiped: room,
             refusal: 9,
             more: false,
-            next: 0,
-        }
+            after: len,
+            next: nought,
+        };
+    }
+    if room < end - at {
+        return Show {
+            from: at,
+            count: room,
+            wiped: 0,
+            refusal: 0,
+            more: true,
+            after: at + room,
+            next: nought,
+        };
+    }
+    Show {
+        from: at,
+        count: end - at,
+        wiped: 0,
+        refusal: 0,
+        more: false,
+        after: len,
+        next: nought,
+    }
+}
+
+// With the file number of the first record that is left out.
+pub fn continued(w: Show, first: Entry) -> Show
+    ensures { λ v. ⌜ v ≡ continuedOf w first ⌝ }
+{
+    let next = first.file;
+    Show {
+        from: w.from,
+        count: w.count,
+        wiped: w.wiped,
+        refusal: w.refusal,
+        more: w.more,
+        after: w.after,
+        next: next,
     }
 }
 
 pub fn report(w: Show) -> Page
     ensures { λ r. ⌜ r ≡ reportOf w ⌝ }
 {
+    let next = w.next;
     Page {
         refusal: w.refusal,
         count: w.count,
         more: w.more,
-        next: w.next,
-    }
-}
-
-// The first m numbers become zeros.
-pub fn wipe(out: &mut [u64], m: usize)
-    requires { ⌜ m ≤ length (now out) ⌝ }
-    ensures { λ _. ⌜ now (out .exit) ≡ wiped m (now (out .entry)) ⌝ }
-{
-    let mut i = 0;
-    while i < m {
-        out[i] = 0;
-        i += 1;
+        next: next,
     }
 }

@@ -6,24 +6,26 @@ use mathlib.Core.List.{List}
 use Prim.Native.Nat.{ℕ, _≤_, _<_}
 use native.Mathlib.Omega.{arith}
 use lib.Dec.{eqb}
-use lib.ListN.{length, getD, take}
+use lib.ListN.{length, getD, take, replicate}
 use Rattle.lists.specs.Passing.{passing}
 use Rattle.lists.specs.Refusal.{LowestThatApplies, refusal-lowest, grant-no}
-use Rattle.lists.specs.Tabulate.{zeros}
+use Rattle.entries.specs.declared.Wide.{Wide}
 use Rattle.entries.specs.declared.Entry.{Entry}
 use Rattle.entries.specs.declared.Key.{Key}
 use Rattle.entries.specs.declared.Found.{Found}
 use Rattle.entries.specs.declared.Changed.{Changed}
 use Rattle.entries.specs.declared.Page.{Page}
+use Rattle.entries.specs.Wide.{nought}
 use Rattle.entries.specs.Blank.{blank}
 use Rattle.entries.specs.Key.{keyOf, keyEq}
-use Rattle.entries.specs.Catalogue.{sound, onward, cobs, lookupTests, lookupOf, insertTests, insertNumber, insertOf, insertedList, deleteTests, deleteNumber, deleteOf, deletedList, listingTests, listingOf}
+use Rattle.entries.specs.Catalogue.{sound, onward, cobs, lookupTests, lookupOf, insertTests, insertNumber, insertOf, insertedList, deleteTests, deleteNumber, deleteOf, deletedList, listingTests, listingOf, listedOut}
 use Rattle.entries.specs.Promise.{Lookup, Insert, Delete, Listing}
 use Rattle.entries.specs.Laws as L
 use Rattle.entries.specs.Slots as S
 use Rattle.entries.specs.Pages as P
 use Rattle.shelf.specs.declared.Shelf.{Shelf}
-use Rattle.shelf.specs.Shelf.{shelfOf}
+use Rattle.shelf.specs.declared.Sheet.{Sheet}
+use Rattle.shelf.specs.Shelf.{shelfOf, sheetOf}
 use Rattle.promises.specs.Tight.{same}
 
 -- ---- changes; n is the count, and ys the whole slice
@@ -47,7 +49,7 @@ module _ (r : Entry) (n : ℕ) (ys : List Entry) where
 
   -- a deleted record is not found, and another key finds what it found before
   pub found-after-delete : sound n ys ≡ true → deleteNumber r n ys ≡ 0
-      → lookupOf (keyOf r) (deleteOf r n ys .count) (deletedList r n ys) ≡ record { refusal = 11; cob = 0 }
+      → lookupOf (keyOf r) (deleteOf r n ys .count) (deletedList r n ys) ≡ record { refusal = 11; cob = nought }
   found-after-delete = L.lookup-deleted r n ys
 
   pub others-after-delete : sound n ys ≡ true → (j : Key) → keyEq (keyOf r) j ≡ false → deleteNumber r n ys ≡ 0
@@ -61,7 +63,7 @@ module _ (r : Entry) (n : ℕ) (ys : List Entry) where
   pub delete-changes-only : (i : ℕ) (d : Entry) → n ≤ i → getD (deletedList r n ys) i d ≡ getD ys i d
   delete-changes-only = S.delete-beyond r n ys
 
-  -- "the slot it frees at the end becomes three zeros"
+  -- "the slot it frees at the end becomes three zeros", which are five words now
   pub delete-frees : (d : Entry) → deleteNumber r n ys ≡ 0 → getD (deletedList r n ys) (deleteOf r n ys .count) d ≡ blank
   delete-frees = S.delete-frees r n ys
 
@@ -78,18 +80,18 @@ module _ (r : Entry) (n : ℕ) (ys : List Entry) where
 
 -- "A refused .. listing .. fills its output with zeros", and "returned numbers are 0 where no rule gives them another value"
 module _ (n : ℕ) (ys : List Entry) (k : Key) where
-  pub lookup-refused : (f : Found) → Lookup k n ys f → (f .refusal ≡ 0 → ⊥) → f .cob ≡ 0
+  pub lookup-refused : (f : Found) → Lookup k n ys f → (f .refusal ≡ 0 → ⊥) → f .cob ≡ nought
   lookup-refused f p never =
       ap (λ (x : Found). x .cob) (p .answer)
-      ∙ grant-no (lookupOf k n ys .refusal) _ 0 (λ (z : _ ≡ 0). never (ap (λ (x : Found). x .refusal) (p .answer) ∙ z))
+      ∙ grant-no (lookupOf k n ys .refusal) _ nought (λ (z : _ ≡ 0). never (ap (λ (x : Found). x .refusal) (p .answer) ∙ z))
 
-  pub listing-refused : (old : List ℕ) (page : Page) (new : List ℕ) → Listing k n ys old page new → (page .refusal ≡ 0 → ⊥)
-      → (new ≡ zeros (length old)) × (page .count ≡ 0) × (page .more ≡ false) × (page .next ≡ 0)
+  pub listing-refused : (old : List Wide) (page : Page) (new : List Wide) → Listing k n ys old page new → (page .refusal ≡ 0 → ⊥)
+      → (new ≡ replicate (length old) nought) × (page .count ≡ 0) × (page .more ≡ false) × (page .next ≡ nought)
   listing-refused old page new p never = (
-    p .output ∙ grant-no (listingOf k n ys old .refusal) _ (zeros (length old)) no,
+    p .output ∙ grant-no (listingOf k n ys old .refusal) _ (replicate (length old) nought) no,
     ap (λ (x : Page). x .count) (p .answer) ∙ grant-no (listingOf k n ys old .refusal) _ 0 no,
     ap (λ (x : Page). x .more) (p .answer) ∙ grant-no (listingOf k n ys old .refusal) _ false no,
-    ap (λ (x : Page). x .next) (p .answer) ∙ grant-no (listingOf k n ys old .refusal) _ 0 no,
+    ap (λ (x : Page). x .next) (p .answer) ∙ grant-no (listingOf k n ys old .refusal) _ nought no,
   )
     where
       no : listingOf k n ys old .refusal ≡ 0 → ⊥
@@ -101,8 +103,8 @@ pub listings-visit-all : (t m : ℕ) (k : Key) (n : ℕ) (ys : List Entry) → s
     → P.visited t m k n ys ≡ cobs k (take n ys)
 listings-visit-all = P.visits-all
 
--- from file 0 on these are the cobs of all the records of the device
-pub all-of-the-device : (d : ℕ) (xs : List Entry) → onward (record { device = d; file = 0 }) xs ≡ passing (λ (r : Entry). eqb (r .device) d) xs
+-- from file (0,0) on these are the cobs of all the records of the device
+pub all-of-the-device : (d : ℕ) (xs : List Entry) → onward (record { device = d; file = nought }) xs ≡ passing (λ (r : Entry). eqb (r .device) d) xs
 all-of-the-device = P.from-zero
 
 -- ---- the lowest number that applies
@@ -117,7 +119,7 @@ module _ (n : ℕ) (ys : List Entry) where
   pub delete-lowest : (r : Entry) → LowestThatApplies (deleteTests r n ys) (deleteOf r n ys .refusal)
   delete-lowest r = refusal-lowest 1 (deleteTests r n ys) (omega arith) refl
 
-  pub listing-lowest : (k : Key) (out : List ℕ) → LowestThatApplies (listingTests n ys) (listingOf k n ys out .refusal)
+  pub listing-lowest : (k : Key) (out : List Wide) → LowestThatApplies (listingTests n ys) (listingOf k n ys out .refusal)
   listing-lowest k out = refusal-lowest 1 (listingTests n ys) (omega arith) refl
 
 -- ---- any two outcomes are the same
@@ -132,11 +134,11 @@ module _ (n : ℕ) (ys : List Entry) where
   pub delete-tight : (r : Entry) (c c′ : Changed) (zs zs′ : List Entry) → Delete r n ys c zs → Delete r n ys c′ zs′ → (c ≡ c′) × (zs ≡ zs′)
   delete-tight r c c′ zs zs′ p q = (same (p .answer) (q .answer), same (p .slots) (q .slots))
 
-  pub listing-tight : (k : Key) (old : List ℕ) (p p′ : Page) (new new′ : List ℕ) → Listing k n ys old p new → Listing k n ys old p′ new′
+  pub listing-tight : (k : Key) (old : List Wide) (p p′ : Page) (new new′ : List Wide) → Listing k n ys old p new → Listing k n ys old p′ new′
       → (p ≡ p′) × (new ≡ new′)
   listing-tight k old p p′ new new′ a b = (same (a .answer) (b .answer), same (a .output) (b .output))
 
-  -- the same calls on eight slots by value: lookup and listing promise what is above; insert and delete answer slots, number and count in one struct
+  -- the same calls on eight slots by value: lookup promises what is above; the others answer what they leave and their numbers in one struct
   pub shelf-insert-tight : (r : Entry) (b b′ : Shelf) → b ≡ shelfOf (insertedList r n ys) (insertOf r n ys)
       → b′ ≡ shelfOf (insertedList r n ys) (insertOf r n ys) → b ≡ b′
   shelf-insert-tight r b b′ = same
@@ -144,6 +146,10 @@ module _ (n : ℕ) (ys : List Entry) where
   pub shelf-delete-tight : (r : Entry) (b b′ : Shelf) → b ≡ shelfOf (deletedList r n ys) (deleteOf r n ys)
       → b′ ≡ shelfOf (deletedList r n ys) (deleteOf r n ys) → b ≡ b′
   shelf-delete-tight r b b′ = same
+
+  pub shelf-listing-tight : (k : Key) (out : List Wide) (b b′ : Sheet) → b ≡ sheetOf (listedOut k n ys out) (listingOf k n ys out)
+      → b′ ≡ sheetOf (listedOut k n ys out) (listingOf k n ys out) → b ≡ b′
+  shelf-listing-tight k out b b′ = same
 
   -- which are those that the calls on a slice promise, so that their laws above hold of it
   pub shelf-insert-promises : (r : Entry) (b : Shelf) → b ≡ shelfOf (insertedList r n ys) (insertOf r n ys)
@@ -155,3 +161,11 @@ module _ (n : ℕ) (ys : List Entry) where
       → Delete r n ys (record { refusal = b .refusal; count = b .count }) (b .slots)
   shelf-delete-promises r b e =
       record { answer = ap (λ (x : Shelf). record { refusal = x .refusal; count = x .count }) e; slots = ap (λ (x : Shelf). x .slots) e }
+
+  pub shelf-listing-promises : (k : Key) (out : List Wide) (b : Sheet) → b ≡ sheetOf (listedOut k n ys out) (listingOf k n ys out)
+      → Listing k n ys out (record { refusal = b .refusal; count = b .count; more = b .more; next = b .next }) (b .out)
+  shelf-listing-promises k out b e =
+      record {
+        answer = ap (λ (x : Sheet). record { refusal = x .refusal; count = x .count; more = x .more; next = x .next }) e;
+        output = ap (λ (x : Sheet). x .out) e;
+      }

@@ -11,6 +11,7 @@ pub mod Independence
 pub mod Refusals
 pub mod Tight
 pub mod Catalogue
+pub mod WideNumbers
 pub mod HexLine
 pub mod PoolText
 pub mod WriteList

@@ -1,12 +1,13 @@
 //! `catalogue_runs`: seeded calls on a slice of eight catalogue records.
 
 use super::{line, spaced};
-use crate::catalogue::{delete, insert, listing, lookup, Record};
+use crate::catalogue::{delete, insert, listing, lookup, Record, Wide};
 use crate::draws::Draws;
 
 const CALLS: u64 = 2400;
 const CALLS_OF_A_RUN: u64 = 60;
 const SLOTS: usize = 8;
+const PLACES: usize = 4;
 
 struct State {
     draws: Draws,
@@ -39,10 +40,7 @@ impl State {
     fn spoil(&mut self) {
         if self.draws.draw(64) == 0 {
             let at = self.draws.draw(SLOTS as u64) as usize;
-            let device = self.draws.draw(3);
-            let file = self.draws.draw(3);
-            let cob = self.draws.draw(3);
-            self.slots[at] = Record { device, file, cob };
+            self.slots[at] = self.drawn_record();
         }
     }
 
@@ -54,28 +52,46 @@ impl State {
         }
     }
 
-    /// Mostly a number below `small`, at times a very large one.
-    fn drawn_number(&mut self, small: u64) -> u64 {
+    /// Mostly one of three words, at times a very large one.
+    fn drawn_word(&mut self) -> u64 {
         match self.draws.draw(16) {
             0 => u64::MAX,
             1 => self.draws.high(),
-            _ => self.draws.draw(small),
+            _ => self.draws.draw(3),
         }
     }
 
-    /// What a call names: a slot's three numbers, a slot's key with another
-    /// cob, or three drawn numbers.
+    fn drawn_wide(&mut self) -> Wide {
+        let first = self.drawn_word();
+        let second = self.drawn_word();
+        Wide { first, second }
+    }
+
+    /// Mostly of device 0, so that it often has more files than a listing takes.
     fn drawn_record(&mut self) -> Record {
-        let aim = self.draws.draw(5);
-        if aim >= 2 {
-            let device = self.drawn_number(2);
-            let file = self.drawn_number(7);
-            let cob = self.drawn_number(100);
-            return Record { device, file, cob };
+        let device = match self.draws.draw(4) {
+            0 => self.drawn_word(),
+            _ => 0,
+        };
+        let file = self.drawn_wide();
+        let cob = self.drawn_wide();
+        Record { device, file, cob }
+    }
+
+    /// What a call names: a slot's record, one that differs from it in one word
+    /// of file or cob, or a drawn one.
+    fn named_record(&mut self) -> Record {
+        let aim = self.draws.draw(10);
+        if aim >= 6 {
+            return self.drawn_record();
         }
         let mut record = self.slots[self.draws.draw(SLOTS as u64) as usize];
-        if aim == 1 {
-            record.cob = self.drawn_number(100);
+        match aim {
+            2 => record.file.first = self.drawn_word(),
+            3 => record.file.second = self.drawn_word(),
+            4 => record.cob.first = self.drawn_word(),
+            5 => record.cob.second = self.drawn_word(),
+            _ => {}
         }
         record
     }
@@ -83,57 +99,72 @@ impl State {
     fn call(&mut self, out: &mut String) {
         let kind = self.draws.draw(10);
         let given = self.drawn_count();
-        let Record { device, file, cob } = self.drawn_record();
+        let named = self.named_record();
+        let Record { device, file, cob } = named;
         match kind {
             0..=4 => {
-                let (refusal, after) = insert(&mut self.slots, given, device, file, cob);
-                self.changed(out, "insert", [given, device, file, cob, refusal, after]);
+                let answer = insert(&mut self.slots, given, device, file, cob);
+                self.changed(out, "insert", given, &named, answer);
             }
             5 | 6 => {
-                let (refusal, after) = delete(&mut self.slots, given, device, file, cob);
-                self.changed(out, "delete", [given, device, file, cob, refusal, after]);
+                let answer = delete(&mut self.slots, given, device, file, cob);
+                self.changed(out, "delete", given, &named, answer);
             }
             7 => {
                 let (refusal, found) = lookup(&self.slots, given, device, file);
-                line!(
-                    out,
-                    "lookup {}",
-                    spaced(&[given, device, file, refusal, found])
-                );
+                let asked = [given, device, file.first, file.second];
+                let answer = [refusal, found.first, found.second];
+                line!(out, "lookup {} {}", spaced(&asked), spaced(&answer));
             }
-            _ => self.list(out, given, device, file),
+            8 => self.list(out, given, device, file),
+            _ => self.list(out, given, device, Wide::default()),
         }
     }
 
     /// Prints an insert or a delete, and keeps the count of an accepted one.
-    fn changed(&mut self, out: &mut String, label: &str, fields: [u64; 6]) {
-        line!(out, "{} {}", label, spaced(&fields));
-        if fields[4] == 0 {
-            self.count = fields[5];
+    fn changed(
+        &mut self,
+        out: &mut String,
+        label: &str,
+        given: u64,
+        named: &Record,
+        (refusal, after): (u64, u64),
+    ) {
+        let answer = spaced(&[refusal, after]);
+        line!(out, "{label} {given} {} {answer}", spaced(&words(named)));
+        if refusal == 0 {
+            self.count = after;
         }
     }
 
-    fn list(&mut self, out: &mut String, given: u64, device: u64, first: u64) {
-        let length = self.draws.draw(5);
-        let mut cobs = [7; 4];
-        let part = &mut cobs[..length as usize];
-        let (refusal, listed) = listing(&self.slots, given, device, first, part);
-        let more = u64::from(listed.more);
-        let report = [refusal, listed.count, more, listed.next];
+    fn list(&self, out: &mut String, given: u64, device: u64, first: Wide) {
+        let seven = Wide {
+            first: 7,
+            second: 7,
+        };
+        let mut cobs = [seven; PLACES];
+        let (refusal, listed) = listing(&self.slots, given, device, first, &mut cobs);
+        let (more, next) = (u64::from(listed.more), listed.next);
+        let asked = [given, device, first.first, first.second];
+        let report = [refusal, listed.count, more, next.first, next.second];
+        let cobs = cobs.map(|cob| [cob.first, cob.second]);
         line!(
             out,
             "listing {} {} {}",
-            spaced(&[given, device, first, length]),
+            spaced(&asked),
             spaced(&report),
-            spaced(&cobs)
+            spaced(cobs.as_flattened())
         );
     }
 
     fn show(&self, out: &mut String) {
-        let mut fields = vec![self.count];
-        for slot in &self.slots {
-            fields.extend([slot.device, slot.file, slot.cob]);
-        }
-        line!(out, "slots {}", spaced(&fields));
+        let slots = self.slots.map(|slot| words(&slot));
+        line!(out, "slots {} {}", self.count, spaced(slots.as_flattened()));
     }
+}
+
+/// A record as it is printed.
+fn words(record: &Record) -> [u64; 5] {
+    let Record { device, file, cob } = record;
+    [*device, file.first, file.second, cob.first, cob.second]
 }

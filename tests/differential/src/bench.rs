@@ -26,7 +26,7 @@ pub struct Bench {
     lent: usize,
     /// Whether every call is printed before it is made.
     tells: bool,
-    spoil: Option<Spoil>,
+    pub spoil: Option<Spoil>,
 }
 
 impl Bench {

@@ -3,6 +3,9 @@
 //! are compared. docs/TESTING.md tells what it shows.
 
 mod bench;
+mod catalogue_draws;
+mod catalogue_kinds;
+mod catalogue_rules;
 mod catalogues;
 mod damages;
 mod draws;
@@ -36,7 +39,8 @@ const USAGE: &str =
   --round  this round alone, each call printed before it is made
   --heap   every lent buffer is a heap block of its own: for memcheck
   --spoil  makes a fault on purpose, which must be reported: answer, byte, before, after, look, store,
-           rest";
+           rest; of the catalogue's rules second-word-first, first-word-alone, first-word-ignored, half-cob,
+           next-exchanged, half-freed";
 
 /// Under two minutes, also where x86-64 is emulated.
 const USUAL_RUNS: u64 = 300_000;

@@ -1,5 +1,7 @@
-//! Faults made on purpose, one for each kind of comparison: the tester must report every one of them.
+//! Faults made on purpose, one for each kind of comparison and one for each rule of the catalogue's numbers of two words: the
+//! tester must report every one of them.
 
+use crate::catalogue_rules::Rule;
 use crate::lent::Lent;
 
 /// What a library with a fault would do.
@@ -19,9 +21,11 @@ pub enum Spoil {
     Store,
     /// What stands behind the answer to a replayed line is cleared, though it must stay.
     Rest,
+    /// A rule of the catalogue is another.
+    Rule(Rule),
 }
 
-const KINDS: [(&str, Spoil); 7] = [
+const KINDS: [(&str, Spoil); 13] = [
     ("answer", Spoil::Answer),
     ("byte", Spoil::Byte),
     ("before", Spoil::Before),
@@ -29,6 +33,12 @@ const KINDS: [(&str, Spoil); 7] = [
     ("look", Spoil::Look),
     ("store", Spoil::Store),
     ("rest", Spoil::Rest),
+    ("second-word-first", Spoil::Rule(Rule::SecondWordFirst)),
+    ("first-word-alone", Spoil::Rule(Rule::FirstWordAlone)),
+    ("first-word-ignored", Spoil::Rule(Rule::FirstWordIgnored)),
+    ("half-cob", Spoil::Rule(Rule::HalfCob)),
+    ("next-exchanged", Spoil::Rule(Rule::NextExchanged)),
+    ("half-freed", Spoil::Rule(Rule::HalfFreed)),
 ];
 
 impl Spoil {

@@ -1,6 +1,8 @@
 //! What has been tried so far: the calls with their refusal numbers, the layouts, the damage done to texts and to
-//! replayed lines, the kinds of lists of writes, and those of replayed lines with the numbers of their answers.
+//! replayed lines, the kinds of lists of writes and of calls on catalogues, and those of replayed lines with the numbers
+//! of their answers.
 
+use crate::catalogue_kinds::{Asked, CATALOGUE_KINDS};
 use crate::damages::DAMAGES;
 use crate::line_damages::LINE_DAMAGES;
 use crate::line_kinds::{FirstLine, Line, EVENTS, FIRST_KINDS, LINE_KINDS, MALFORMED};
@@ -131,6 +133,8 @@ pub struct Tally {
     /// How often a list of each kind was met, and the ranges that were answered with 4.
     lists: [u64; KINDS.len()],
     ranges: Range,
+    /// How often a call on a catalogue was of each kind.
+    catalogues: [u64; CATALOGUE_KINDS.len()],
     replays: Ranges,
     /// How often each event was answered with each number, and how often a line was malformed.
     events: [[u64; REFUSALS]; EVENTS.len()],
@@ -150,6 +154,7 @@ impl Tally {
         damages: [0; DAMAGES.len()],
         lists: [0; KINDS.len()],
         ranges: Range::NONE,
+        catalogues: [0; CATALOGUE_KINDS.len()],
         replays: Ranges::NONE,
         events: [[0; REFUSALS]; EVENTS.len()],
         malformed: 0,
@@ -191,6 +196,13 @@ impl Tally {
         }
         if list.range > 0 {
             self.ranges.add(list.range);
+        }
+    }
+
+    /// A catalogue was asked and answered.
+    pub fn add_catalogue(&mut self, asked: &Asked) {
+        for ((_, is_met), count) in CATALOGUE_KINDS.iter().zip(&mut self.catalogues) {
+            *count += u64::from(is_met(asked));
         }
     }
 
@@ -246,6 +258,9 @@ impl Tally {
             println!("list: {name:30}{count:9}");
         }
         println!("list: ranges {} answered with 4", self.ranges);
+        for ((name, _), count) in CATALOGUE_KINDS.iter().zip(self.catalogues) {
+            println!("catalogue: {name:30}{count:9}");
+        }
         self.print_lines();
         self.all.print("without an image");
         self.pools.print("pools");
@@ -271,7 +286,7 @@ impl Tally {
     }
 
     /// The calls and their refusal numbers that were never met, the damage that was never done, and the kinds of
-    /// lists and of replayed lines that were never met.
+    /// lists, of calls on catalogues and of replayed lines that were never met.
     pub fn never_met(&self) -> Vec<String> {
         let mut never = Vec::new();
         for ((name, refusals), of_call) in CALLS.iter().zip(self.counts) {
@@ -287,6 +302,7 @@ impl Tally {
         }
         never.extend(unmet("a text with", &DAMAGES, &self.damages));
         never.extend(unmet("a list with", &KINDS, &self.lists));
+        never.extend(unmet("a call on a catalogue with", &CATALOGUE_KINDS, &self.catalogues));
         never.extend(unmet("a line damaged by", &LINE_DAMAGES, &self.line_damages));
         never.extend(unmet("a line with", &LINE_KINDS, &self.lines));
         never.extend(unmet("a first line with", &FIRST_KINDS, &self.firsts));

@@ -1,6 +1,6 @@
 //! What the C compiler makes of the header: a small program, written from the header's own names, prints
 //! sizes, offsets and enum values.
-use crate::sources::{c_enum, c_structs, file, repository};
+use crate::sources::{c_enum, c_structs, file, repository, Named, Structs};
 use std::path::Path;
 use std::process::Command;
 use std::sync::OnceLock;
@@ -34,12 +34,13 @@ fn compiled_and_run() -> Vec<String> {
 
 fn program_text() -> String {
     let header = file("include/splicebell.h");
+    let structs = c_structs(&header);
     let mut lines = String::new();
-    for (name, fields) in c_structs(&header) {
+    for (name, fields) in &structs {
         let whole = format!("splicebell_{name}");
         lines +=
             &format!("    printf(\"{whole} %zu %zu\\n\", sizeof({whole}), _Alignof({whole}));\n");
-        for (field, _) in fields {
+        for field in with_inner_fields(fields, &structs) {
             let place = format!("offsetof({whole}, {field}), sizeof((({whole} *)0)->{field})");
             lines += &format!("    printf(\"{whole}.{field} %zu %zu\\n\", {place});\n");
         }
@@ -48,6 +49,17 @@ fn program_text() -> String {
         lines += &format!("    printf(\"{name} %d\\n\", {name});\n");
     }
     format!("#include <stdio.h>\n#include \"splicebell.h\"\n\nint main(void) {{\n{lines}    return 0;\n}}\n")
+}
+
+/// The names of a struct's fields, each followed by those of its own fields where it is a struct itself.
+fn with_inner_fields(fields: &[Named], structs: &Structs) -> Vec<String> {
+    let mut names = Vec::new();
+    for (field, of) in fields {
+        names.push(field.clone());
+        let inner = structs.get(of).map(|inner| with_inner_fields(inner, structs));
+        names.extend(inner.into_iter().flatten().map(|name| format!("{field}.{name}")));
+    }
+    names
 }
 
 fn output(command: &mut Command) -> String {

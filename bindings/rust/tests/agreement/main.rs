@@ -22,18 +22,28 @@ fn size_of_field<S, F>(_field: impl Fn(&S) -> &F) -> usize {
     size_of::<F>()
 }
 
-/// One line for a struct and one for each of its fields, as the C program prints them.
+/// One line for a field, or for a field of a field, with its offset in the whole struct.
+macro_rules! line_of {
+    ($name:ident $($field:ident)+) => {
+        format!(
+            "{} {} {}",
+            [stringify!($name), $(stringify!($field)),+].join("."),
+            offset_of!($name, $($field).+),
+            size_of_field(|s: &$name| &s.$($field).+)
+        )
+    };
+}
+
+/// One line for a struct, one for each of its fields and, where a field is a struct itself, one for each field
+/// of that, as the C program prints them.
 macro_rules! lines_of {
-    ($($name:ident { $($field:ident)* })*) => {
+    ($($name:ident { $($field:ident $({ $($inner:ident)* })?)* })*) => {
         vec![$(
             format!("{} {} {}", stringify!($name), size_of::<$name>(), align_of::<$name>()),
-            $(format!(
-                "{}.{} {} {}",
-                stringify!($name),
-                stringify!($field),
-                offset_of!($name, $field),
-                size_of_field(|s: &$name| &s.$field)
-            ),)*
+            $(
+                line_of!($name $field),
+                $($(line_of!($name $field $inner),)*)?
+            )*
         )*]
     };
 }
@@ -43,7 +53,7 @@ fn rust_lines() -> Vec<String> {
         splicebell_layout { n k p u t cookie }
         splicebell_record { failed k q }
         splicebell_numbers { w b l c frames groups capacity image }
-        splicebell_measured { refusal numbers }
+        splicebell_measured { refusal numbers { w b l c frames groups capacity image } }
         splicebell_entries { refusal entries }
         splicebell_placed { refusal frame target begins }
         splicebell_held { refusal group unit }
@@ -51,20 +61,21 @@ fn rust_lines() -> Vec<String> {
         splicebell_traced { refusal group unit byte is_data offset }
         splicebell_unit { group unit }
         splicebell_cursor { target frame }
-        splicebell_walked { refusal done held next }
-        splicebell_failed { refusal record }
+        splicebell_walked { refusal done held { group unit } next { target frame } }
+        splicebell_failed { refusal record { failed k q } }
         splicebell_range { offset length }
         splicebell_list_written { refusal range }
-        splicebell_repaired { refusal count record }
+        splicebell_repaired { refusal count record { failed k q } }
         splicebell_shown { refusal missing begins length }
-        splicebell_entry { device file cob }
-        splicebell_key { device file }
-        splicebell_found { refusal cob }
+        splicebell_wide { first second }
+        splicebell_entry { device file { first second } cob { first second } }
+        splicebell_key { device file { first second } }
+        splicebell_found { refusal cob { first second } }
         splicebell_changed { refusal count }
-        splicebell_page { refusal count more next }
+        splicebell_page { refusal count more next { first second } }
         splicebell_text_read { refusal line }
-        splicebell_first_line { refusal layout image }
-        splicebell_played { refusal length record }
+        splicebell_first_line { refusal layout { n k p u t cookie } image }
+        splicebell_played { refusal length record { failed k q } }
     }
 }
 
@@ -172,5 +183,5 @@ fn with_common_names(mut functions: Functions) -> Functions {
 #[test]
 fn the_sources_were_read() {
     assert_eq!(c_functions(&file(HEADER)).len(), 26);
-    assert_eq!(c_structs(&file(HEADER)).len(), 25);
+    assert_eq!(c_structs(&file(HEADER)).len(), 26);
 }

@@ -22,7 +22,7 @@ fn on_a_pool<T>(record: Record, call: impl Fn(&mut Pool) -> Result<T, Refusal>) 
 }
 
 fn on_a_full_catalogue<T>(call: impl Fn(&mut Catalogue) -> Result<T, Refusal>) -> Option<Refusal> {
-    let mut slots = [Entry { device: 1, file: 1, cob: 1 }];
+    let mut slots = [Entry::new(1, 1, 1)];
     call(&mut Catalogue::new(&mut slots, 1)).err()
 }
 
@@ -41,8 +41,8 @@ fn provoked() -> [Option<Refusal>; 13] {
         on_a_pool(one_failed, |pool| pool.fail(3)),
         LAYOUT.rebuild(&[0, 1], &mut [0; 8]).err(),
         Catalogue::new(&mut [], 1).lookup(Key::default()).err(),
-        on_a_full_catalogue(|catalogue| catalogue.insert(Entry { device: 2, file: 1, cob: 1 })),
-        on_a_full_catalogue(|catalogue| catalogue.delete(Entry { device: 1, file: 1, cob: 2 })),
+        on_a_full_catalogue(|catalogue| catalogue.insert(Entry::new(2, 1, 1))),
+        on_a_full_catalogue(|catalogue| catalogue.delete(Entry::new(1, 1, 2))),
         LAYOUT.read_text(b"", &mut [0; IMAGE_LENGTH]).err().map(Refusal::from),
         Layout::from_first_line(b"").err(),
     ]

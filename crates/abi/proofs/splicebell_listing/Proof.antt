@@ -24,7 +24,7 @@ use sound.WpLaws.{WpFn-mono, FmC, fmOf}
 use denote.RattleType.{owns}
 use denote.Laws.{Is, shows}
 use denote.Plain.{uint-vals, uint-tells, uint-makes}
-use denote.Builtin.{usize, u64}
+use denote.Builtin.{usize}
 use denote.Slice.{sliceVal, MutSlice, ShrSlice, Room, slice-vals, mut-slice-tells, shr-slice-tells, shr-slice-copy}
 use denote.Ref.{RefT}
 use denote.Signature.{plain}
@@ -38,10 +38,12 @@ use denote.Triple.Spec.{Meets, tripleOf}
 use denote.Triple.Table.{entered, cited}
 use denote.Triple.Walked.{says, Stays, stay-none, stay-slice, stay-none-slice, walkOf, goes-none, goes-slice, goes-none-slice, Walks, ends-at, walked, walk-meets}
 use denote.Exit.{yes}
+use Rattle.entries.specs.declared.Wide.{Wide}
 use Rattle.entries.specs.declared.Entry.{Entry}
 use Rattle.entries.specs.declared.Key.{Key}
 use Rattle.entries.specs.declared.Page.{Page}
 use Rattle.entries.specs.Promise.{Listing}
+use Rattle.entries.proofs.Wide as U
 use Rattle.entries.proofs.Entry as T
 use Rattle.entries.proofs.Key as Y
 use Rattle.entries.proofs.Key.Laws as Y′
@@ -58,14 +60,14 @@ use Rattle.abi.proofs.splicebell_listing.Statement as stated
 use Rattle.abi.proofs.splicebell_listing.Code as code
 
 abbrev stayed : Stays (exported.ended .signature .params) (exported.ended .kept)
-stayed = (stay-none-slice (0 ∷ []) tt (plain (λ _. T.the-row)) yes, (stay-none (λ _. usize) yes, (stay-none (λ _. Y.the-row) yes, (stay-slice (1 ∷ []) tt (plain (λ _. u64)), tt))))
+stayed = (stay-none-slice (0 ∷ []) tt (plain (λ _. T.the-row)) yes, (stay-none (λ _. usize) yes, (stay-none (λ _. Y.the-row) yes, (stay-slice (1 ∷ []) tt (plain (λ _. U.the-row)), tt))))
 
 -- the contract that the proof cites
 abbrev Callee : {M : Type 1} (𝓤 : URA M) (H : Heap 𝓤) (A : Atoms 𝓤) → (Memory → SProp 𝓤) → (Routine → Fun 𝓤) → Contract 𝓤
 Callee 𝓤 H A mem run = tripleOf 𝓤 H A inner.signature (inner.spec 𝓤 H A mem run)
 
-module _ {M : Type 1} (𝓤 : URA M) (H : Heap 𝓤) (A : Atoms 𝓤) (W : Given 𝓤 H A) (mem : Memory → SProp 𝓤) (run : Routine → Fun 𝓤) (κ κ₂ : Lft) (q q₂ : Share) (b o : ℕ) (γ : GName) (ys : List Entry) (n : ℕ) (k : Key) (b₂ o₂ : ℕ) (γ₂ : GName) (os : List ℕ)
-    (gn : Room T.the-row (length ys)) (n-fits : n < 2 ^ 64) (is-k : Is Y.the-row k (Y′.lowered k ∷ [])) (go : Room u64 (length os)) where
+module _ {M : Type 1} (𝓤 : URA M) (H : Heap 𝓤) (A : Atoms 𝓤) (W : Given 𝓤 H A) (mem : Memory → SProp 𝓤) (run : Routine → Fun 𝓤) (κ κ₂ : Lft) (q q₂ : Share) (b o : ℕ) (γ : GName) (ys : List Entry) (n : ℕ) (k : Key) (b₂ o₂ : ℕ) (γ₂ : GName) (os : List Wide)
+    (gn : Room T.the-row (length ys)) (n-fits : n < 2 ^ 64) (is-k : Is Y.the-row k (Y′.lowered k ∷ [])) (go : Room U.the-row (length os)) where
   abbrev s : RefT (List Entry)
   s = record { ptr = (b, o); name = γ; now = ys }
 
@@ -73,13 +75,13 @@ module _ {M : Type 1} (𝓤 : URA M) (H : Heap 𝓤) (A : Atoms 𝓤) (W : Given
   v = sliceVal (b, o) (length ys)
 
   -- the output under the name δ at the list l, and its machine value
-  abbrev s₂ : GName → List ℕ → RefT (List ℕ)
+  abbrev s₂ : GName → List Wide → RefT (List Wide)
   s₂ δ l = record { ptr = (b₂, o₂); name = δ; now = l }
 
   abbrev v₂ : Val
   v₂ = sliceVal (b₂, o₂) (length os)
 
-  abbrev x : GName → RefT (List Entry) × (ℕ × (Key × (RefT (List ℕ) × Unit {0})))
+  abbrev x : GName → RefT (List Entry) × (ℕ × (Key × (RefT (List Wide) × Unit {0})))
   x δ = (s, (n, (k, (s₂ δ os, tt))))
 
   abbrev at : (ν : Lft) → Vals exported.signature (κ, (ν, tt))
@@ -91,10 +93,10 @@ module _ {M : Type 1} (𝓤 : URA M) (H : Heap 𝓤) (A : Atoms 𝓤) (W : Given
   abbrev Own : Item 𝓤
   Own = ‵ (ShrSlice (named 0) κ T.the-row .own s (v ∷ []))
 
-  abbrev Own₂ : List ℕ → Item 𝓤
-  Own₂ l = ‵ (MutSlice (named 1) κ₂ u64 .own (s₂ γ₂ l) (v₂ ∷ []))
+  abbrev Own₂ : List Wide → Item 𝓤
+  Own₂ l = ‵ (MutSlice (named 1) κ₂ U.the-row .own (s₂ γ₂ l) (v₂ ∷ []))
 
-  exits : (d : Page) (u : Val) (zs : List ℕ) → length zs ≡ length os → Listing k n ys os d zs → Is D.the-row d (u ∷ [])
+  exits : (d : Page) (u : Val) (zs : List Wide) → length zs ≡ length os → Listing k n ys os d zs → Is D.the-row d (u ∷ [])
       → ent 𝓤 (⋆ 𝓤 H A (Own₂ zs ∷ ‵ (flft κ₂ q₂) ∷ ‵ (flft κ q) ∷ Own ∷ [])) (Post u)
   exits d u zs l e is =
       qed W (Own₂ zs ∷ ‵ (flft κ₂ q₂) ∷ ‵ (flft κ q) ∷ Own ∷ []) ∵
@@ -113,9 +115,9 @@ module _ {M : Type 1} (𝓤 : URA M) (H : Heap 𝓤) (A : Atoms 𝓤) (W : Given
 
   goes : (ν : ℕ) (δ : GName)
       → ent 𝓤 (sep 𝓤 (sep 𝓤 (A .lft κ q) (A .lft (ν ∷ []) fullShare)) (sep 𝓤 (sem 𝓤 H A (ShrSlice (named 0) κ T.the-row .own s (v ∷ []))) (sem 𝓤 H A
-      (MutSlice (named 1) (ν ∷ []) u64 .own (s₂ δ os) (v₂ ∷ []))))) (Callee 𝓤 H A mem run .pre (to-callee ν δ))
+      (MutSlice (named 1) (ν ∷ []) U.the-row .own (s₂ δ os) (v₂ ∷ []))))) (Callee 𝓤 H A mem run .pre (to-callee ν δ))
   goes ν δ =
-      qed W ((‵ (flft κ q) ⊛ ‵ (flft (ν ∷ []) fullShare)) ∷ Own ∷ ‵ (MutSlice (named 1) (ν ∷ []) u64 .own (s₂ δ os) (v₂ ∷ [])) ∷ []) ∵ split ! $
+      qed W ((‵ (flft κ q) ⊛ ‵ (flft (ν ∷ []) fullShare)) ∷ Own ∷ ‵ (MutSlice (named 1) (ν ∷ []) U.the-row .own (s₂ δ os) (v₂ ∷ [])) ∷ []) ∵ split ! $
       -- [the records' token; the output's; what s owns; what the output owns]
       nothing ! $ move ! (2 ∷ 0 ∷ []) $ join ! $ move ! (1 ∷ 0 ∷ []) $ join ! $
       nothing ! $ move ! (3 ∷ 0 ∷ []) $ fjoin ! $ owned ! Y.the-row (Is Y.the-row) (LL.makes Y.the-type Y′.the-plain 𝓤 H A) k _ is-k $ fjoin ! $
@@ -125,7 +127,7 @@ module _ {M : Type 1} (𝓤 : URA M) (H : Heap 𝓤) (A : Atoms 𝓤) (W : Given
   module _ (C : Calls 𝓤 H) (Λ : Loops 𝓤 H) (fm : FmC 𝓤 H (W .laws) C) (known : Triple 𝓤 (C #catalogue·listing) (Callee 𝓤 H A mem run)) where
     walk : ent 𝓤 (onEntry 𝓤 H A exported.signature (κ, (κ₂, tt)) (q, (q₂, tt)) (x γ₂) (at κ₂)) (WpFn 𝓤 H C Λ code.function (v ∷ vint w64 n ∷ Y′.lowered k ∷ v₂ ∷ []) Post)
     walk =
-        qed W ((‵ (flft κ q) ⊛ ‵ (flft κ₂ q₂) ⊛ ‵ ftrue) ∷ ‵ (owns (ShrSlice (named 0) κ T.the-row ∷ usize ∷ Y.the-row ∷ MutSlice (named 1) κ₂ u64 ∷ []) (x γ₂) (at κ₂)) ∷ []) ∵ enter ! C Λ code.function
+        qed W ((‵ (flft κ q) ⊛ ‵ (flft κ₂ q₂) ⊛ ‵ ftrue) ∷ ‵ (owns (ShrSlice (named 0) κ T.the-row ∷ usize ∷ Y.the-row ∷ MutSlice (named 1) κ₂ U.the-row ∷ []) (x γ₂) (at κ₂)) ∷ []) ∵ enter ! C Λ code.function
         (v ∷ vint w64 n ∷ Y′.lowered k ∷ v₂ ∷ []) _ $
         alloc1 ! (λ l₀. alloc1 ! (λ l₁. alloc1 ! (λ l₂. alloc1 ! (λ l₃. alloc1 ! (λ l₄. alloc1 ! (λ l₅. alloc1 ! (λ l₆. alloc0 ! $ params1 ! $
         pass1 ! (init ! 10 refl (tt, (tt, (record { fits = gn .0 }, tt)))) $ pass1 ! (init ! 8 refl (tt, record { fits = n-fits })) $
@@ -140,8 +142,8 @@ module _ {M : Type 1} (𝓤 : URA M) (H : Heap 𝓤) (A : Atoms 𝓤) (W : Given
         move ! (17 ∷ []) $ split ! $ move ! (1 ∷ []) $ split ! $ move ! (1 ∷ []) $ drop ! $
         -- [the output's token; the records' token; what the output owns; what s owns; what s owns; _6; …]: lent again for a lifetime ν of the call
         lft-new ! tt (λ ν. move ! (3 ∷ 1 ∷ []) $
-        use2 W (later (some (λ (δ : GName). ‵ (MutSlice (named 1) (ν ∷ []) u64 .own (s₂ δ os) (v₂ ∷ [])) ⊛ ‵ (LentAgain u64 κ₂
-        (ν ∷ []) q₂ γ₂ b₂ o₂ δ os)))) (lends-again u64 κ₂ (ν ∷ []) q₂ γ₂ b₂ o₂ 𝓤 H A W (named 1) (named 1) os) $
+        use2 W (later (some (λ (δ : GName). ‵ (MutSlice (named 1) (ν ∷ []) U.the-row .own (s₂ δ os) (v₂ ∷ [])) ⊛ ‵ (LentAgain U.the-row κ₂
+        (ν ∷ []) q₂ γ₂ b₂ o₂ δ os)))) (lends-again U.the-row κ₂ (ν ∷ []) q₂ γ₂ b₂ o₂ 𝓤 H A W (named 1) (named 1) os) $
         await ! tt $ pick ! (λ δ. split ! $
         -- [the output as lent; what is kept; ν's token; the records' token; what s owns; what s owns; _6; …]
         move ! (3 ∷ 2 ∷ []) $ join ! $ move ! (0 ∷ 3 ∷ 1 ∷ []) $ use3 W (raw (Callee 𝓤 H A mem run .pre (to-callee ν δ))) (goes ν δ) $
@@ -153,7 +155,7 @@ module _ {M : Type 1} (𝓤 : URA M) (H : Heap 𝓤) (A : Atoms 𝓤) (W : Given
         await ! tt $ pick ! (λ d.
         -- what it ensures, at some last list
         split ! $ move ! (1 ∷ []) $
-        use1 W (some (λ (zs : Unit {0} × (Unit {0} × (Unit {0} × (List ℕ × Unit {0})))). ‵ (lasts inner.ended (κ, (ν ∷ [], tt)) (x δ) zs) ⊛ raw (fact 𝓤
+        use1 W (some (λ (zs : Unit {0} × (Unit {0} × (Unit {0} × (List Wide × Unit {0})))). ‵ (lasts inner.ended (κ, (ν ∷ [], tt)) (x δ) zs) ⊛ raw (fact 𝓤
         (Listing k n ys os d (zs .1 .1 .1 .0))))) (id⊢ 𝓤 _) $
         pick ! (λ zs.
         split ! $ move ! (1 ∷ []) $ heard ! (Listing k n ys os d (zs .1 .1 .1 .0)) (λ e. fsplit ! $ drop ! $ fsplit ! $ drop ! $ fsplit ! $ drop ! $
@@ -162,7 +164,7 @@ module _ {M : Type 1} (𝓤 : URA M) (H : Heap 𝓤) (A : Atoms 𝓤) (W : Given
         move ! (2 ∷ []) $ split ! $ move ! (1 ∷ []) $ peeks ! D.the-row (Is D.the-row) (shows 𝓤 H A D.the-row) d (u ∷ []) (λ is.
         land ! (from ! (stop !)) (init ! 18 refl (LL.lawful D.the-type D′.the-laws 𝓤 H A W .typed d _ is .0)) $ drop ! $
         split ! $ move ! (1 ∷ []) $ split ! $ lft-end ! tt $ move ! (0 ∷ 5 ∷ 3 ∷ []) $
-        use3 W (later (Own₂ (zs .1 .1 .1 .0) ⊛ ‵ (flft κ₂ q₂))) (comes-back u64 κ₂ (ν ∷ []) q₂ γ₂ b₂ o₂ 𝓤 H A W (named 1) (named 1) os δ
+        use3 W (later (Own₂ (zs .1 .1 .1 .0) ⊛ ‵ (flft κ₂ q₂))) (comes-back U.the-row κ₂ (ν ∷ []) q₂ γ₂ b₂ o₂ 𝓤 H A W (named 1) (named 1) os δ
         (zs .1 .1 .1 .0) go l) $
         await ! tt $ split ! $
         -- [what the output owns; its token; true; the records' token; the others'; what s owns; _6; …]
@@ -176,14 +178,14 @@ module _ {M : Type 1} (𝓤 : URA M) (H : Heap 𝓤) (A : Atoms 𝓤) (W : Given
     (known : Triple 𝓤 (𝓣 .C #catalogue·listing) (Callee 𝓤 H A mem run)) where
   walks : Walks 𝓤 H A exported.ended stayed (WpFn 𝓤 H (𝓣 .C) (𝓣 .Λ) code.function) (exported.clauses 𝓤 H A mem run)
   walks =
-      walked 𝓤 H A exported.ended stayed (exported.clauses 𝓤 H A mem run) (WpFn 𝓤 H (𝓣 .C) (𝓣 .Λ) code.function) (λ κs. (slice-vals, (uint-vals w64, (LL.vals Y.the-type Y′.the-laws, (slice-vals, tt))))) (λ κs. (shr-slice-tells (named 0) (κs .0) T.the-row, (uint-tells w64, (LL.tells Y.the-type Y′.the-laws, (mut-slice-tells (named 1) (κs .1 .0) u64, tt)))))
+      walked 𝓤 H A exported.ended stayed (exported.clauses 𝓤 H A mem run) (WpFn 𝓤 H (𝓣 .C) (𝓣 .Λ) code.function) (λ κs. (slice-vals, (uint-vals w64, (LL.vals Y.the-type Y′.the-laws, (slice-vals, tt))))) (λ κs. (shr-slice-tells (named 0) (κs .0) T.the-row, (uint-tells w64, (LL.tells Y.the-type Y′.the-laws, (mut-slice-tells (named 1) (κs .1 .0) U.the-row, tt)))))
       (λ κs qs bounds a g are. via 𝓤 _ (fst∗ 𝓤 _ (emp 𝓤)) (walk 𝓤 H A W mem run (κs .0) (κs .1 .0) (qs .0) (qs .1 .0) (a .0 .ptr .0) (a .0 .ptr .1)
       (a .0 .name) (a .0 .now) (a .1 .0) (a .1 .1 .0) (a .1 .1 .1 .0 .ptr .0) (a .1 .1 .1 .0 .ptr .1) (a .1 .1 .1 .0 .name) (a .1 .1 .1 .0 .now)
       (are .0 .0 .1) (are .1 .0 .1) (are .1 .1 .0) (are .1 .1 .1 .0 .0 .1) (𝓣 .C) (𝓣 .Λ) (fmOf 𝓤 H (W .laws) 𝓣) known))
 
   meets : Meets 𝓤 H A exported.signature (WpFn 𝓤 H (𝓣 .C) (𝓣 .Λ) code.function) (exported.spec 𝓤 H A mem run)
   meets =
-      walk-meets 𝓤 H A exported.ended stayed W (goes-none-slice 𝓤 H A W 2 (0 ∷ []) tt (plain (λ _. T.the-row)) yes, (goes-none 𝓤 H A W 2 (λ _. usize) yes (λ κs x f. refl), (goes-none 𝓤 H A W 2 (λ _. Y.the-row) yes (λ κs x f. refl), (goes-slice 𝓤 H A W 2 1 tt (plain (λ _. u64)), tt)))) (exported.clauses 𝓤 H A mem run) (WpFn 𝓤 H (𝓣 .C) (𝓣 .Λ) code.function) (WpFn-mono 𝓤 H (W .laws) 𝓣 code.function) walks
+      walk-meets 𝓤 H A exported.ended stayed W (goes-none-slice 𝓤 H A W 2 (0 ∷ []) tt (plain (λ _. T.the-row)) yes, (goes-none 𝓤 H A W 2 (λ _. usize) yes (λ κs x f. refl), (goes-none 𝓤 H A W 2 (λ _. Y.the-row) yes (λ κs x f. refl), (goes-slice 𝓤 H A W 2 1 tt (plain (λ _. U.the-row)), tt)))) (exported.clauses 𝓤 H A mem run) (WpFn 𝓤 H (𝓣 .C) (𝓣 .Λ) code.function) (WpFn-mono 𝓤 H (W .laws) 𝓣 code.function) walks
 
 pub splicebell-listing-spec : {M : Type 1} → stated.statement M
 unfolding code.routine tablesOf

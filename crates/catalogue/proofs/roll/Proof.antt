@@ -89,11 +89,11 @@ next-inside : (d : Bool) (at m n : ℕ) → inside d at m n → 0 < m → inside
 next-inside true at m n h l = (omega (arith, h .0), omega (arith, h .1))
 next-inside false at m n h l = omega (arith, h)
 
-next-fits : (at n : ℕ) → at < n → n * 24 < 2 ^ 63 → at + 1 < 2 ^ 64
+next-fits : (at n : ℕ) → at < n → n * 40 < 2 ^ 63 → at + 1 < 2 ^ 64
 next-fits at n l r = omega arith
 
-fits24 : (i n : ℕ) → i < n → n * 24 < 2 ^ 63 → i * 24 < 2 ^ 64
-fits24 i n l r = omega arith
+fits40 : (i n : ℕ) → i < n → n * 40 < 2 ^ 63 → i * 40 < 2 ^ 64
+fits40 i n l r = omega arith
 
 one-less : (m : ℕ) → 0 < m → m - 1 < m
 one-less m l = omega arith
@@ -252,7 +252,7 @@ module _ {M : Type 1} (𝓤 : URA M) (H : Heap 𝓤) (A : Atoms 𝓤) (W : Given
         )) $
         assigns ! (bin ! (load ! (from ! (fld ! refl (stop !))) (look-in ! 30 (sub ! 0 refl (whole !)))) (load ! (from ! (stop !))
         (look ! 10 refl)) tt) (from ! (stop !)) (init ! 8 refl (tt, tt)) $
-        rewrite ! 8 (λ (p : ℕ). ‵ (fat fullShare tyPtr l₁₂ 0 (vptr b p))) (sym (place-is 24 o (t .at))) refl $
+        rewrite ! 8 (λ (p : ℕ). ‵ (fat fullShare tyPtr l₁₂ 0 (vptr b p))) (sym (place-is 40 o (t .at))) refl $
         elem-out ! T.the-row (Is T.the-row) (shows 𝓤 H A T.the-row) (LL.vals T.the-type T′.the-laws) (LL.tells T.the-type T′.the-laws) fullShare
         (t .zs) (t .at) blank b o (here more) (λ g.
         -- [s[at]; what it owns; the others; the open borrow; obs; auth; _14; …]
@@ -266,7 +266,7 @@ module _ {M : Type 1} (𝓤 : URA M) (H : Heap 𝓤) (A : Atoms 𝓤) (W : Given
         )) $
         assigns ! (bin ! (load ! (from ! (fld ! refl (stop !))) (look-in ! 32 (sub ! 0 refl (whole !)))) (load ! (from ! (stop !))
         (look ! 12 refl)) tt) (from ! (stop !)) (init ! 6 refl (tt, tt)) $
-        rewrite ! 6 (λ (p : ℕ). ‵ (fat fullShare tyPtr l₁₄ 0 (vptr b p))) (sym (place-is 24 o (t .at))) refl $
+        rewrite ! 6 (λ (p : ℕ). ‵ (fat fullShare tyPtr l₁₄ 0 (vptr b p))) (sym (place-is 40 o (t .at))) refl $
         assigns ! (of-opd ! (load ! (from ! (stop !)) (look ! 18 refl))) (from ! (hop ! (look ! 6 refl) (stop !))) (store-raw ! 0 refl
         (LL.lawful T.the-type T′.the-laws 𝓤 H A W .typed (t .c) _ (t .is) .0)) $
         move ! (1 ∷ []) $ drop ! $ owned ! T.the-row (Is T.the-row) (LL.makes T.the-type T′.the-plain 𝓤 H A) (t .c) (t .u ∷ []) (t .is) $
@@ -314,8 +314,8 @@ module _ {M : Type 1} (𝓤 : URA M) (H : Heap 𝓤) (A : Atoms 𝓤) (W : Given
         here : T (ltb 0 (t .left)) → t .at < length (t .zs)
         here more = subst (λ (k : ℕ). t .at < k) (sym (t .same)) (there more)
 
-        room : T (ltb 0 (t .left)) → t .at * 24 < 2 ^ 64
-        room more = fits24 (t .at) (length ys) (there more) (gn .1)
+        room : T (ltb 0 (t .left)) → t .at * 40 < 2 ^ 64
+        room more = fits40 (t .at) (length ys) (there more) (gn .1)
 
         small : T (ltb 0 (t .left)) → t .at + 1 < 2 ^ 64
         small more = next-fits (t .at) (length ys) (there more) (gn .1)

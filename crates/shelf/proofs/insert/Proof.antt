@@ -58,7 +58,8 @@ use Rattle.catalogue.proofs.insert as insert
 use Rattle.catalogue.proofs.insert.Symbol as insert-def
 use Rattle.catalogue.proofs.insert.Symbol.{name as #catalogue·insert}
 use Rattle.catalogue.proofs.insert.Met as insert-thm
-use Rattle.shelf.proofs.Eight.{Ar, mach, tyA, room8, opened, closed}
+use Rattle.shelf.proofs.Rows.{opened, closed}
+use Rattle.shelf.proofs.Eight.{Ar, mach, tyA, room8}
 use Rattle.shelf.proofs.bound as bound
 use Rattle.shelf.proofs.bound.Symbol as bound-def
 use Rattle.shelf.proofs.bound.Symbol.{name as #shelf·bound}
@@ -160,7 +161,7 @@ module _ {M : Type 1} (𝓤 : URA M) (H : Heap 𝓤) (A : Atoms 𝓤) (W : Given
         -- the array is taken for the row of its elements, and lent for a lifetime ν of the call
         move ! (19 ∷ []) $ drop ! $ move ! (18 ∷ []) $ drop ! $
         owned ! Ar (Is Ar) (array-makes 𝓤 H A W T.the-row (LL.makes T.the-type T′.the-plain 𝓤 H A) 8) xs (mach xs ∷ []) is-a $ move ! (9 ∷ 0 ∷ []) $
-        use2 W (‵ (cells (mem T.the-row) xs l₄ 0)) (opened 𝓤 H A W xs l₄) $ lft-new ! tt (λ ν. move ! (1 ∷ []) $
+        use2 W (‵ (cells (mem T.the-row) xs l₄ 0)) (opened T.the-type T′.the-laws 8 𝓤 H A W xs l₄) $ lft-new ! tt (λ ν. move ! (1 ∷ []) $
         use1 W (later (some (λ (δ : GName). ‵ (MutSlice (named 0) (ν ∷ []) T.the-row .own (s l₄ δ xs) (v l₄ ∷ [])) ⊛ ‵ (flent (ν ∷ [])
         (Held T.the-row (length xs) l₄ 0 δ))))) (lends-slice 𝓤 H A W T.the-row (named 0) (ν ∷ []) xs l₄ 0 (room8 xs eight)) $
         await ! tt $ pick ! (λ δ. split ! $
@@ -182,7 +183,7 @@ module _ {M : Type 1} (𝓤 : URA M) (H : Heap 𝓤) (A : Atoms 𝓤) (W : Given
         use3 W (later (‵ (Arr (mem T.the-row) (length xs) .lies (zs .0) l₄ 0))) (slice-back 𝓤 H A W T.the-row (ν ∷ []) δ (zs .0) (length xs) l₄ 0) $
         await ! tt $
         rewrite ! 0 (λ (m : ℕ). ‵ (Arr (mem T.the-row) m .lies (zs .0) l₄ 0)) eight refl $
-        use1 W (‵ (fat fullShare tyA l₄ 0 (mach (zs .0))) ⊛ ‵ (Ar .own (zs .0) (mach (zs .0) ∷ []))) (closed 𝓤 H A W (zs .0) l₄) $ split ! $
+        use1 W (‵ (fat fullShare tyA l₄ 0 (mach (zs .0))) ⊛ ‵ (Ar .own (zs .0) (mach (zs .0) ∷ []))) (closed T.the-type T′.the-laws 8 𝓤 H A W (zs .0) l₄) $ split ! $
         move ! (1 ∷ []) $ peeks ! Ar (Is Ar) (shows 𝓤 H A Ar) (zs .0) (mach (zs .0) ∷ []) (λ is₂.
         -- [what the array owns; _4; true; the others'; _8; …; _7; …; _6; …; _5; …; that _4 dies; _3; …; _2; …; _1; …; room for _0; …]
         assigns ! (of-opd ! (load ! (from ! (stop !)) (look ! 1 refl))) (from ! (stop !)) (init ! 4 refl (array-lawful 𝓤 H A W T.the-row

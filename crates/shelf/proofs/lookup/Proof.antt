@@ -56,7 +56,8 @@ use Rattle.catalogue.proofs.lookup as lookup
 use Rattle.catalogue.proofs.lookup.Symbol as lookup-def
 use Rattle.catalogue.proofs.lookup.Symbol.{name as #catalogue·lookup}
 use Rattle.catalogue.proofs.lookup.Met as lookup-thm
-use Rattle.shelf.proofs.Eight.{Ar, mach, tyA, room8, parted, joined}
+use Rattle.shelf.proofs.Rows.{parted, joined}
+use Rattle.shelf.proofs.Eight.{Ar, mach, tyA, room8}
 use Rattle.shelf.proofs.lookup.Key.{name as #shelf·lookup}
 use Rattle.shelf.proofs.lookup as shelved
 use Rattle.shelf.proofs.lookup.Statement as stated
@@ -139,7 +140,7 @@ module _ {M : Type 1} (𝓤 : URA M) (H : Heap 𝓤) (A : Atoms 𝓤) (W : Given
         -- the array is taken for its elements, which are lent for a lifetime ν of the call
         move ! (15 ∷ []) $ drop ! $ move ! (14 ∷ []) $ drop ! $
         owned ! Ar (Is Ar) (array-makes 𝓤 H A W T.the-row (LL.makes T.the-type T′.the-plain 𝓤 H A) 8) xs (mach xs ∷ []) is-a $ move ! (5 ∷ 0 ∷ []) $
-        use2 W (‵ (arr-parts (shares T.the-row) 8 .part fullShare xs l₄ 0)) (parted 𝓤 H A W xs l₄) $
+        use2 W (‵ (arr-parts (shares T.the-row) 8 .part fullShare xs l₄ 0)) (parted T.the-type T′.the-laws 8 𝓤 H A W xs l₄) $
         rewrite ! 0 (λ (m : ℕ). ‵ (arr-parts (shares T.the-row) m .part fullShare xs l₄ 0)) (sym eight) refl $ lft-new ! tt (λ ν. move ! (1 ∷ []) $
         use1 W (later (some (λ (δ : GName). ‵ (ShrSlice (named 0) (ν ∷ []) T.the-row .own (s l₄ δ) (v l₄ ∷ [])) ⊛ ‵ (flent (ν ∷ []) (arr-parts
         (shares T.the-row) (length xs) .part fullShare xs l₄ 0))))) (lends-shr-slice 𝓤 H A W T.the-row (named 0) (ν ∷ []) fullShare xs l₄ 0
@@ -160,7 +161,7 @@ module _ {M : Type 1} (𝓤 : URA M) (H : Heap 𝓤) (A : Atoms 𝓤) (W : Given
         -- the lifetime is ended, and the elements are the array again
         split ! $ lft-end ! tt $ move ! (0 ∷ 2 ∷ []) $ lent-back ! tt $
         rewrite ! 0 (λ (m : ℕ). ‵ (arr-parts (shares T.the-row) m .part fullShare xs l₄ 0)) eight refl $
-        use1 W (‵ (fat fullShare tyA l₄ 0 (mach xs)) ⊛ ‵ (Ar .own xs (mach xs ∷ []))) (joined 𝓤 H A W xs l₄) $ split ! $ move ! (1 ∷ []) $ drop ! $
+        use1 W (‵ (fat fullShare tyA l₄ 0 (mach xs)) ⊛ ‵ (Ar .own xs (mach xs ∷ []))) (joined T.the-type T′.the-laws 8 𝓤 H A W xs l₄) $ split ! $ move ! (1 ∷ []) $ drop ! $
         -- [_4; true; _6; …; _5; …; that _4 dies; _3; …; _2; …; _1; …; _0; …]
         returns ! (look ! 13 refl) $ forget ! 0 refl $ forget ! 2 refl $ forget ! 4 refl $ forget ! 7 refl $ forget ! 9 refl $ forget ! 11 refl $
         forget ! 13 refl $
