@@ -22,7 +22,7 @@ use Rattle.entries.specs.Key.{rising}
 use Rattle.entries.specs.Span.{pastCount}
 use Rattle.entries.specs.Look.{searched, scanOf}
 use Rattle.entries.specs.Listed.{listed, wiped}
-use Rattle.entries.specs.Plans.{shownBy, shownOf, continuedOf, endOf, viewOf, windowOf, reportOf}
+use Rattle.entries.specs.Plans.{hiddenOf, shownBy, shownOf, continuedOf, endOf, viewOf, windowOf, reportOf}
 use Rattle.entries.specs.Catalogue.{before, onward, sound, cobs, files, listingTests, pageBy, listingOf, listedOut}
 use Rattle.entries.specs.Splits.{Within, onward-within}
 use Rattle.entries.specs.Devices.{past-whole}
@@ -83,7 +83,7 @@ stands k n ys s =
 -- ---- what a listing shows: nothing where the catalogue is bad, else a part of the records or all of them
 
 data View (at total len room : ℕ) (s : Bool) (w : Show) : Type 0 where
-  bad : s ≡ false → w ≡ record { from = 0; count = 0; wiped = room; refusal = 9; more = false; after = len; next = nought } → View at total len room s w
+  bad : s ≡ false → w ≡ hiddenOf len room → View at total len room s w
   part : s ≡ true → room < total → w ≡ record { from = at; count = room; wiped = 0; refusal = 0; more = true; after = at + room; next = nought }
       → View at total len room s w
   all : s ≡ true → total ≤ room → w ≡ record { from = at; count = total; wiped = 0; refusal = 0; more = false; after = len; next = nought }

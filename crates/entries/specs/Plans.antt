@@ -60,6 +60,10 @@ outcomeOf w = record { refusal = w .refusal; count = w .total }
 
 -- ---- a listing of the records from the place at up to the place end; s: no refusal 9
 
+-- a refused listing: the whole output becomes zeros
+abbrev pub hiddenOf : ℕ → ℕ → Show
+hiddenOf len room = record { from = 0; count = 0; wiped = room; refusal = 9; more = false; after = len; next = nought }
+
 -- the first record that is left out stands at `after`, past the slice where none is
 abbrev pub shownBy : ℕ → ℕ → ℕ → ℕ → Bool → Show
 shownBy at end len room s =
@@ -67,7 +71,7 @@ shownBy at end len room s =
     (pick (ltb room (end - at))
     (record { from = at; count = room; wiped = 0; refusal = 0; more = true; after = at + room; next = nought })
     (record { from = at; count = end - at; wiped = 0; refusal = 0; more = false; after = len; next = nought }))
-    (record { from = 0; count = 0; wiped = room; refusal = 9; more = false; after = len; next = nought })
+    (hiddenOf len room)
 
 unfoldable pub shownOf : Look → ℕ → ℕ → Show
 shownOf x end room = shownBy (x .at) end (x .len) room (x .sound)

@@ -9,7 +9,7 @@ ghost use Rattle.entries.specs.Key.{keyOf, keyLt, keyEq};
 ghost use Rattle.entries.specs.Pass.{freshPass, risesOf, passOf};
 ghost use Rattle.entries.specs.Span.{pastOf, spanOf, halfOf};
 ghost use Rattle.entries.specs.Look.{trustedOf, lookOf};
-ghost use Rattle.entries.specs.Plans.{answerOf, placed, idleOf, insertionOf, deletionOf, outcomeOf, shownOf, continuedOf, reportOf};
+ghost use Rattle.entries.specs.Plans.{answerOf, placed, idleOf, insertionOf, deletionOf, outcomeOf, hiddenOf, shownOf, continuedOf, reportOf};
 ghost use Rattle.entries.specs.Roll.{movedTo};
 
 // The number of a file or of a cob, 128 bits wide: two words, the first the more significant.
@@ -60,7 +60,7 @@ pub fn blank_entry() -> Entry
 }
 
 // The order of two wide numbers.
-pub fn lower(a: Wide, b: Wide) -> bool
+pub fn below_wide(a: Wide, b: Wide) -> bool
     ensures { λ r. ⌜ r ≡ wideLt a b ⌝ }
 {
     let fa = a.first;
@@ -82,7 +82,7 @@ pub fn below(a: Key, b: Key) -> bool
 {
     let da = a.device;
     let db = b.device;
-    let by_file = lower(a.file, b.file);
+    let by_file = below_wide(a.file, b.file);
     if da < db {
         return true;
     }
@@ -418,6 +418,25 @@ pub struct Show {
     pub next: Wide,
 }
 
+// A listing that is refused: the whole output becomes zeros.
+pub fn hidden(len: usize, room: usize) -> Show
+    ensures { λ w. ⌜ w ≡ hiddenOf len room ⌝ }
+{
+    let nought = Wide {
+        first: 0,
+        second: 0,
+    };
+    Show {
+        from: 0,
+        count: 0,
+        wiped: room,
+        refusal: 9,
+        more: false,
+        after: len,
+        next: nought,
+    }
+}
+
 // Of the place where the device ends, and the room of the output.
 pub fn shown(x: Look, end: usize, room: usize) -> Show
     requires { ⌜ x .at ≤ end ⌝ }
@@ -431,15 +450,7 @@ pub fn shown(x: Look, end: usize, room: usize) -> Show
     let at = x.at;
     let len = x.len;
     if !sound {
-        return Show {
-            from: 0,
-            count: 0,
-            wiped: room,
-            refusal: 9,
-            more: false,
-            after: len,
-            next: nought,
-        };
+        return hidden(len, room);
     }
     if room < end - at {
         return Show {

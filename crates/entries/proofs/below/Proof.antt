@@ -1,4 +1,4 @@
--- `entries::below` meets its contract: each return is the arm that its tests pick, of one device what `lower` ensures.
+-- `entries::below` meets its contract: each return is the arm that its tests pick, of one device what `below_wide` ensures.
 use borrow.Author.Needs.{needs}
 use borrow.Author.Tests.{lt-ltb, le-ltb}
 use mathlib.Core.Path.{_≡_, _∙_}
@@ -15,8 +15,8 @@ by-file : (a b : Key) {t : Bool} → t ≡ wideLt (a .file) (b .file) → b .dev
 unfolding keyLt
 by-file a b e p q = e ∙ simp (le-ltb _ _ p, le-ltb _ _ q)
 
-lower-requires : tie.Need-lower-requires
-lower-requires c κs = search needs
+below-wide-requires : tie.Need-below-wide-requires
+below-wide-requires c κs = search needs
 
 returns : tie.Need-returns
 unfolding keyLt
@@ -27,7 +27,7 @@ unfolding keyLt
 returns-2 c = simp (le-ltb _ _ (c .before .if1 .left), lt-ltb _ _ (c .if2 .taken))
 
 returns-3 : tie.Need-returns-3
-returns-3 c = by-file _ _ (c .before .before .lower .ensures) (c .before .if1 .left) (c .if2 .left)
+returns-3 c = by-file _ _ (c .before .before .below-wide .ensures) (c .before .if1 .left) (c .if2 .left)
 
 pub below-spec : {M : Type 1} → statement M
-below-spec = tie.close (tie.spec lower-requires returns returns-2 returns-3)
+below-spec = tie.close (tie.spec below-wide-requires returns returns-2 returns-3)
