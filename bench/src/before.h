@@ -12,4 +12,30 @@ uint64_t before_write(splicebell_layout y, splicebell_record r, uint8_t *image, 
                       const uint8_t *bytes, size_t bytes_len);
 splicebell_repaired before_repair(splicebell_layout y, splicebell_record r, uint8_t *image, size_t image_len);
 
+/* The catalogue as it was before document 02's order 5, with file and cob numbers of one word: records of 24 bytes. */
+typedef struct before_entry {
+    uint64_t device, file, cob;
+} before_entry;
+
+typedef struct before_key {
+    uint64_t device, file;
+} before_key;
+
+typedef struct before_found {
+    uint64_t refusal, cob;
+} before_found;
+
+typedef struct before_page {
+    uint64_t refusal;
+    size_t count;
+    bool more;
+    uint64_t next;
+} before_page;
+
+before_found before_lookup(const before_entry *slots, size_t slot_count, size_t n, before_key key);
+splicebell_changed before_insert(before_entry *slots, size_t slot_count, size_t n, before_entry record);
+splicebell_changed before_delete(before_entry *slots, size_t slot_count, size_t n, before_entry record);
+before_page before_listing(const before_entry *slots, size_t slot_count, size_t n, before_key from, uint64_t *out,
+                           size_t out_len);
+
 #endif

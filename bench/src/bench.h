@@ -13,6 +13,13 @@ struct options {
 };
 extern struct options options;
 
+/* Who answers a call, ours first: also the twin, and an earlier archive where there is one. */
+#ifdef WITH_BEFORE
+enum { TWIN = 1, ANSWERERS = 3 };
+#else
+enum { TWIN = 1, ANSWERERS = 2 };
+#endif
+
 /* A piece of work: one call of it is timed, or counted, many times. */
 typedef void (*work)(void *context);
 

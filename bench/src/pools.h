@@ -14,12 +14,6 @@ struct answerer {
 };
 extern const struct answerer our_calls, twin_calls;
 
-/* All of them, ours first. */
-#ifdef WITH_BEFORE
-enum { TWIN = 1, ANSWERERS = 3 };
-#else
-enum { TWIN = 1, ANSWERERS = 2 };
-#endif
 extern const struct answerer *const answerers[ANSWERERS];
 
 enum { DRAWN_OFFSETS = 256 };

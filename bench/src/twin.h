@@ -18,6 +18,11 @@ splicebell_repaired twin_repair(splicebell_layout y, splicebell_record r, uint8_
 uint64_t twin_write_text(splicebell_layout y, const uint8_t *image, size_t image_len, uint8_t *text, size_t text_len);
 splicebell_text_read twin_read_text(splicebell_layout y, const uint8_t *text, size_t text_len, uint8_t *image,
                                     size_t image_len);
+splicebell_found twin_lookup(const splicebell_entry *slots, size_t slot_count, size_t n, splicebell_key key);
+splicebell_changed twin_insert(splicebell_entry *slots, size_t slot_count, size_t n, splicebell_entry record);
+splicebell_changed twin_delete(splicebell_entry *slots, size_t slot_count, size_t n, splicebell_entry record);
+splicebell_page twin_listing(const splicebell_entry *slots, size_t slot_count, size_t n, splicebell_key from,
+                             splicebell_wide *out, size_t out_len);
 splicebell_mapped twin_map_offset(splicebell_layout y, uint64_t offset);
 
 #endif

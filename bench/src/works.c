@@ -5,7 +5,7 @@
  *     rebuild:8+2:4096:2:ours         and how many units are lost
  *     pool:repair:8+2:20:1:ours       a pass over a pool on 24 targets: code, tiles, failures
  *     map:ours
- *     catalogue:lookup:10000          records
+ *     catalogue:lookup:10000:ours     records
  *     text:write:4096:ours            bytes of a unit, of a pool of 20 tiles
  */
 #include "catalogue.h"
@@ -88,10 +88,10 @@ static int work_on_map(const char *name, long repeats)
 
 static int work_on_catalogue(const char *name, long repeats)
 {
-    char call[20];
+    char call[20], who[20];
     int n;
-    must(sscanf(name, "catalogue:%19[^:]:%d", call, &n) == 2, name);
-    struct catalogue c = catalogue_of(n);
+    must(sscanf(name, "catalogue:%19[^:]:%d:%19[^:]", call, &n, who) == 3, name);
+    struct catalogue c = catalogue_of(strcmp(who, "ours") == 0 ? &our_catalogue : &twin_catalogue, n);
     work work = strcmp(call, "lookup") == 0 ? look_up : strcmp(call, "listing") == 0 ? list_16 : insert_and_delete;
     return repeat(work, &c, repeats, n, 1);
 }
@@ -161,14 +161,21 @@ static void list_pools(void)
     }
 }
 
+static void list_catalogues(void)
+{
+    static const char *const calls[] = {"lookup", "insert and delete", "listing"};
+    for (size_t i = 0; i < sizeof calls / sizeof *calls; i++)
+        for (int n = 100; n <= 10000; n *= 100)
+            printf("catalogue:%s:%d:ours\ncatalogue:%s:%d:Rust twin\n", calls[i], n, calls[i], n);
+}
+
 int list_works(void)
 {
     printf("product:ours\nproduct:shifting\nproduct:Rust twin\n");
     list_groups();
     list_pools();
     printf("map:ours\nmap:Rust twin\n");
-    for (int n = 100; n <= 10000; n *= 100)
-        printf("catalogue:lookup:%d\ncatalogue:insert and delete:%d\ncatalogue:listing:%d\n", n, n, n);
+    list_catalogues();
     for (int u = 512; u <= 4096; u *= 8)
         printf("text:write:%d:ours\ntext:write:%d:Rust twin\ntext:read:%d:ours\ntext:read:%d:Rust twin\n", u, u, u, u);
     return 0;

@@ -1,7 +1,8 @@
 //! A plain Rust twin of the calls that are timed, to compare with: the same layout, the same bytes, no proofs and no
-//! tests of what is passed, but for the text that is read and the list that is written. The C side is declared in
-//! `src/twin.h`, with the types of `splicebell.h`.
+//! tests of what is passed, but for the text that is read, the list that is written and the catalogue. The C side is
+//! declared in `src/twin.h`, with the types of `splicebell.h`.
 
+mod catalogue;
 mod code;
 mod field;
 mod homes;
@@ -10,6 +11,7 @@ mod list;
 mod pool;
 mod text;
 
+use catalogue::{Changed, Entry, Found, Key, Page, Wide};
 use homes::Record;
 use layout::{Layout, Shape};
 use std::slice::{from_raw_parts, from_raw_parts_mut};
@@ -52,8 +54,8 @@ pub unsafe extern "C" fn twin_products(a: *const u8, b: *const u8, out: *mut u8,
     }
 }
 
-/// Answers 0, as every call here but the reader of a text and the writer of a list: what is passed is taken to be
-/// sound.
+/// Answers 0, as every call here but the reader of a text, the writer of a list and the catalogue's: what is passed is
+/// taken to be sound.
 ///
 /// # Safety
 /// `group` leads to `length` bytes that nothing else touches.
@@ -185,6 +187,57 @@ pub unsafe extern "C" fn twin_read_text(
     let line =
         text::read(y, from_raw_parts(text, text_length), from_raw_parts_mut(image, image_length));
     TextRead { refusal: if line == 0 { 0 } else { 12 }, line }
+}
+
+/// # Safety
+/// `slots` leads to `slot_count` records.
+#[no_mangle]
+pub unsafe extern "C" fn twin_lookup(
+    slots: *const Entry,
+    slot_count: usize,
+    n: usize,
+    key: Key,
+) -> Found {
+    catalogue::lookup(from_raw_parts(slots, slot_count), n, key)
+}
+
+/// # Safety
+/// `slots` leads to `slot_count` records that nothing else touches.
+#[no_mangle]
+pub unsafe extern "C" fn twin_insert(
+    slots: *mut Entry,
+    slot_count: usize,
+    n: usize,
+    record: Entry,
+) -> Changed {
+    catalogue::insert(from_raw_parts_mut(slots, slot_count), n, record)
+}
+
+/// # Safety
+/// `slots` leads to `slot_count` records that nothing else touches.
+#[no_mangle]
+pub unsafe extern "C" fn twin_delete(
+    slots: *mut Entry,
+    slot_count: usize,
+    n: usize,
+    record: Entry,
+) -> Changed {
+    catalogue::delete(from_raw_parts_mut(slots, slot_count), n, record)
+}
+
+/// # Safety
+/// The pointers lead to as many elements as their lengths say; nothing else touches `out`.
+#[no_mangle]
+pub unsafe extern "C" fn twin_listing(
+    slots: *const Entry,
+    slot_count: usize,
+    n: usize,
+    from: Key,
+    out: *mut Wide,
+    out_length: usize,
+) -> Page {
+    let out = from_raw_parts_mut(out, out_length);
+    catalogue::listing(from_raw_parts(slots, slot_count), n, from, out)
 }
 
 #[no_mangle]
