@@ -48,14 +48,14 @@ pub fn key_of(r: Entry) -> Key
 pub fn blank_entry() -> Entry
     ensures { λ r. ⌜ r ≡ blank ⌝ }
 {
-    let nought = Wide {
+    let zeros = Wide {
         first: 0,
         second: 0,
     };
     Entry {
         device: 0,
-        file: nought,
-        cob: nought,
+        file: zeros,
+        cob: zeros,
     }
 }
 
