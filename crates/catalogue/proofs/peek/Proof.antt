@@ -2,7 +2,6 @@
 -- the slice is looked into, one record is copied, and the slice is shut.
 use mathlib.Core.Path.{_≡_, refl, sym, _∙_}
 use Prim.Native.Nat.{ℕ, _<_, _^_, _*_}
-use native.Mathlib.Omega.{arith}
 use mathlib.Core.List.{List, [], _∷_}
 use lib.ListN.{length, getD, List·getD-eq-default}
 use lib.Dec.{leb→le, nleb→lt}
@@ -49,15 +48,12 @@ use Rattle.entries.proofs.blank_entry as blank-entry
 use Rattle.entries.proofs.blank_entry.Symbol as blank-entry-def
 use Rattle.entries.proofs.blank_entry.Symbol.{name as #entries·blank-entry}
 use Rattle.entries.proofs.blank_entry.Met as blank-entry-thm
+use Rattle.catalogue.proofs.Turns.{fits40}
 use Rattle.catalogue.proofs.peek.Key.{name as #catalogue·peek}
 use Rattle.catalogue.proofs.peek as peek
 use Rattle.catalogue.proofs.peek.Statement as stated
 use Rattle.catalogue.proofs.peek.Code as code
 use Rattle.catalogue.proofs.peek.Code.Mir as mir
-
--- ---- lists and numbers
-fits40 : (i n : ℕ) → i < n → n * 40 < 2 ^ 63 → i * 40 < 2 ^ 64
-fits40 i n l r = omega arith
 
 abbrev stayed : Stays (peek.ended .signature .params) (peek.ended .kept)
 stayed = (stay-none-slice (0 ∷ []) tt (plain (λ _. T.the-row)) yes, (stay-none (λ _. usize) yes, tt))
