@@ -1,5 +1,5 @@
 // The catalogue of component objects: a lent slice of records, the first n strictly rising by device and then file. Every call tests
-// that itself; what it decides, it decides on values (crate `entries`).
+// that itself; what it decides, it decides on values (crate `entries`), but for a count or a place past the slice.
 ghost use mathlib.Core.Path.{_≡_};
 ghost use mathlib.Core.Bool.{true};
 ghost use Prim.Native.Nat.{_≤_, _+_};

@@ -1,5 +1,5 @@
 // The records of the catalogue by value: their order, where a search goes on, and what each call makes of what it finds. Every decision of
-// the catalogue falls here, on values; the crate `catalogue` runs over the slices.
+// the catalogue falls here, on values, but for what lies past a slice; the crate `catalogue` runs over the slices.
 ghost use mathlib.Core.Path.{_≡_};
 ghost use Prim.Native.Nat.{_<_, _≤_, _+_, _^_};
 ghost use Rattle.lists.specs.Pick.{both as bothOf};
@@ -59,7 +59,7 @@ pub fn blank_entry() -> Entry
     }
 }
 
-// The order of two wide numbers.
+// The order of two wide numbers: no other function looks into a file number.
 pub fn below_wide(a: Wide, b: Wide) -> bool
     ensures { λ r. ⌜ r ≡ wideLt a b ⌝ }
 {
@@ -76,7 +76,7 @@ pub fn below_wide(a: Wide, b: Wide) -> bool
     sa < sb
 }
 
-// The order of the keys: no other function looks into a file number.
+// The order of the keys: no other function compares them.
 pub fn below(a: Key, b: Key) -> bool
     ensures { λ r. ⌜ r ≡ keyLt a b ⌝ }
 {
@@ -224,6 +224,7 @@ pub struct Look {
     // how many keys are below
     pub at: usize,
     pub found: bool,
+    // of the record at that place, also where it is not the one that is looked for
     pub cob: Wide,
 }
 
