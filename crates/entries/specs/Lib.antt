@@ -13,6 +13,7 @@ pub mod WideOrder
 pub mod Orders
 pub mod Splits
 pub mod Rolls
+pub mod Maps
 pub mod Passes
 pub mod Searches
 pub mod Devices

@@ -26,6 +26,7 @@ use Rattle.entries.specs.Plans.{hiddenOf, shownBy, shownOf, continuedOf,
 use Rattle.entries.specs.Catalogue.{before, onward, sound, cobs, files, listingTests, pageBy, listingOf, listedOut}
 use Rattle.entries.specs.Splits.{Within, onward-within}
 use Rattle.entries.specs.Devices.{past-whole}
+use Rattle.entries.specs.Maps.{map-append}
 use Rattle.entries.specs.Looks.{searched-is, scan-len, scan-sound, scan-place, scan-at}
 
 abbrev cob-of : Entry → Wide
@@ -58,10 +59,6 @@ pub listed-is : (m f : ℕ) (ys : List Entry) (os : List Wide) → f + m ≤ len
 unfolding listed
 listed-is zero f ys os h l = refl
 listed-is (suc m) f ys os h l = listed-step m f ys os (listed m f ys os) h l (listed-is m f ys os (omega arith) (omega arith))
-
-map-append : (f : Entry → Wide) (xs ys : List Entry) → map f (xs ++ ys) ≡ map f xs ++ map f ys
-map-append f [] ys = refl
-map-append f (x ∷ xs) ys = ap {B = List Wide} (λ t. f x ∷ t) (map-append f xs ys)
 
 -- ---- where the records stand that are listed
 record Stands (k : Key) (n : ℕ) (ys : List Entry) : Type 0 where

@@ -23,6 +23,7 @@ use Rattle.entries.specs.Key.{keyOf, listable, rising, risingFrom}
 use Rattle.entries.specs.Orders.{Lt, by-device, by-file, lt-trans, lt-no}
 use Rattle.entries.specs.Splits.{first-lt, rest-rises, cons-rises, rising-tail}
 use Rattle.entries.specs.Catalogue.{onward, sound, cobs, files, listingTests, pageBy, listingOf, listedOut}
+use Rattle.entries.specs.Maps.{map-drop}
 use Rattle.entries.specs.Laws.{lower}
 
 -- ---- being listed
@@ -126,11 +127,6 @@ continued k m xs r l =
     key-is =
         ap {B = Key} (λ (d : ℕ). record { device = d; file = getD (files (onward k xs)) m nought }) (sym (listed-of k z here .0))
         ∙ ap {B = Key} (λ (f : Wide). record { device = z .device; file = f }) (List·getD-map (λ (y : Entry). y .file) (onward k xs) m blank)
-
-map-drop : (f : Entry → Wide) (m : ℕ) (ls : List Entry) → map f (drop m ls) ≡ drop m (map f ls)
-map-drop f zero ls = refl
-map-drop f (suc m) [] = refl
-map-drop f (suc m) (x ∷ ls) = map-drop f m ls
 
 pub continued-cobs : (k : Key) (m : ℕ) (xs : List Entry) → rising xs ≡ true → m < length (cobs k xs) → cobs (nextKey k m xs) xs ≡ drop m (cobs k xs)
 continued-cobs k m xs r l =

@@ -4,17 +4,17 @@ use mathlib.Core.Path.{_≡_, ap}
 use mathlib.Core.Bool.{Bool, true, false}
 use mathlib.Core.List.{List, map}
 use Prim.Native.Nat.{ℕ, _<_, _^_}
-use lib.Dec.{ltb, leb, eqb}
-use lib.ListN.{length, take}
-use Rattle.lists.specs.Pick.{pick, both}
-use Rattle.lists.specs.Passing.{passing}
+use lib.Dec.{ltb, eqb}
+use lib.ListN.{length, getD, take}
+use Rattle.lists.specs.Pick.{pick}
+use Rattle.lists.specs.Refusal.{grant}
 use Rattle.entries.specs.declared.Wide.{Wide}
 use Rattle.entries.specs.declared.Key.{Key}
 use Rattle.entries.specs.Wide.{wideLt, wideEq, numberOf}
 use Rattle.entries.specs.WideOrder.{wide-order, wide-equal}
 use Rattle.entries.specs.Key.{keyOf, keyLt, keyEq, listable}
-use Rattle.entries.specs.Catalogue.{before, holders, after, onward, sound, matches}
-use Rattle.entries.specs.Old.{OldEntry, oldLt, oldEq, oldListable, oldRising, asEntry}
+use Rattle.entries.specs.Catalogue.{lookupOf, insertOf, insertedList, deleteOf, deletedList, listingOf, listedOut}
+use Rattle.entries.specs.Old.{OldEntry, oldLt, oldEq, oldListable, oldHolders, oldCobOf, oldLookup, oldInserted, oldInsert, oldInsertedList, oldRemoved, oldDelete, oldDeletedList, oldCobs, oldFiles, oldListing, oldListedOut, widened, asEntry}
 use Rattle.entries.specs.Embedding as E
 
 -- ---- the order
@@ -47,22 +47,32 @@ pub old-order-embeds : (a b : OldEntry) → SameTests a b
 old-order-embeds a b =
     record { order = E.same-lt a b; equal = E.same-eq a b; listed = E.same-listable a b; cobs = E.widened-eq (a .cob) (b .cob) }
 
--- so of what every answer and every slice is made of: number 9, and the records below a key, of it, above it, listed from it on, matching in all three
-pub record SameParts (n : ℕ) (r : OldEntry) (ys : List OldEntry) : Type 0 where
-  pub legal : sound n (map asEntry ys) ≡ both (leb n (length ys)) (oldRising (take n ys))
-  pub below : before (keyOf (asEntry r)) (map asEntry ys) ≡ map asEntry (passing (λ x. oldLt x r) ys)
-  pub of : holders (keyOf (asEntry r)) (map asEntry ys) ≡ map asEntry (passing (λ x. oldEq x r) ys)
-  pub above : after (keyOf (asEntry r)) (map asEntry ys) ≡ map asEntry (passing (λ x. oldLt r x) ys)
-  pub from : onward (keyOf (asEntry r)) (map asEntry ys) ≡ map asEntry (passing (λ x. oldListable r x) ys)
-  pub matching : matches (asEntry r) (map asEntry ys) ≡ map asEntry (passing (λ x. eqb (x .cob) (r .cob)) (passing (λ x. oldEq x r) ys))
+-- so every call answers and leaves what document 01's did, of the same records, key and output
+pub record BehavesAsBefore (n : ℕ) (r : OldEntry) (ys : List OldEntry) (out : List ℕ) : Type 0 where
+  pub lookup : lookupOf (keyOf (asEntry r)) n (map asEntry ys)
+      ≡ record { refusal = oldLookup r n ys; cob = widened (grant (oldLookup r n ys) (oldCobOf (oldHolders r (take n ys))) 0) }
+  pub insert : insertOf (asEntry r) n (map asEntry ys)
+      ≡ record { refusal = oldInsert r n ys; count = grant (oldInsert r n ys) (length (oldInserted r (take n ys))) n }
+  pub insert-slots : insertedList (asEntry r) n (map asEntry ys) ≡ map asEntry (oldInsertedList r n ys)
+  pub delete : deleteOf (asEntry r) n (map asEntry ys)
+      ≡ record { refusal = oldDelete r n ys; count = grant (oldDelete r n ys) (length (oldRemoved r (take n ys))) n }
+  pub delete-slots : deletedList (asEntry r) n (map asEntry ys) ≡ map asEntry (oldDeletedList r n ys)
+  pub listing : listingOf (keyOf (asEntry r)) n (map asEntry ys) (map widened out) ≡ record {
+    refusal = oldListing n ys;
+    count = grant (oldListing n ys) (length (take (length out) (oldCobs r (take n ys)))) 0;
+    more = grant (oldListing n ys) (ltb (length out) (length (oldCobs r (take n ys)))) false;
+    next = widened (grant (oldListing n ys) (getD (oldFiles r (take n ys)) (length out) 0) 0);
+  }
+  pub output : listedOut (keyOf (asEntry r)) n (map asEntry ys) (map widened out) ≡ map widened (oldListedOut r n ys out)
 
-pub old-catalogue-behaves : (n : ℕ) (r : OldEntry) (ys : List OldEntry) → SameParts n r ys
-old-catalogue-behaves n r ys =
+pub old-catalogue-behaves : (n : ℕ) (r : OldEntry) (ys : List OldEntry) (out : List ℕ) → BehavesAsBefore n r ys out
+old-catalogue-behaves n r ys out =
     record {
-      legal = E.same-sound n ys;
-      below = E.same-before r ys;
-      of = E.same-holders r ys;
-      above = E.same-after r ys;
-      from = E.same-onward r ys;
-      matching = E.same-matches r ys;
+      lookup = E.same-lookup r n ys;
+      insert = E.same-insert r n ys;
+      insert-slots = E.same-insert-slots r n ys;
+      delete = E.same-delete r n ys;
+      delete-slots = E.same-delete-slots r n ys;
+      listing = E.same-listing r n ys out;
+      output = E.same-listed r n ys out;
     }
