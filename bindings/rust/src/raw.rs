@@ -1,6 +1,6 @@
 //! The C interface as `include/splicebell.h` declares it, name for name.
 //!
-//! The safe interface of this crate is built on these declarations. `tests/agreement.rs` compares them with
+//! The safe interface of this crate is built on these declarations. `tests/agreement` compares them with
 //! the header and with the Rattle sources.
 #![allow(missing_docs, non_camel_case_types)]
 

@@ -151,7 +151,8 @@ impl Asked<'_> {
     /// Whether a file is listed whose second word is below that of the file where the listing begins.
     fn lists_a_lower_second(&self) -> bool {
         let begins = self.asked.file;
-        let is_lower = |r: &Record| r.file > begins && r.file.second < begins.second;
-        self.lists(|_, page| page.count > 0) && self.of_device().any(is_lower)
+        let shown = self.listed.as_ref().map_or(0, |(_, page)| page.count as usize);
+        let mut listed = self.of_device().filter(|r| r.file >= begins).take(shown);
+        self.refusal == 0 && listed.any(|r| r.file.second < begins.second)
     }
 }
