@@ -17,8 +17,10 @@ use Rattle.entries.specs.declared.Page.{Page}
 use Rattle.entries.specs.Wide.{nought, wideLt, wideEq}
 use Rattle.entries.specs.Blank.{blank}
 use Rattle.entries.specs.Key.{keyOf, keyLt, keyEq, listable, rising, risingFrom}
-use Rattle.entries.specs.Catalogue.{before, holders, after, onward, sound, matches, cobOf, foundBy, lookupOf, changed, inserted, insertNumber, insertOf, insertedList, removed, deleteNumber, deleteOf, deletedList, cobs, files, listingTests, pageBy, listingOf, listedOut}
-use Rattle.entries.specs.Old.{OldEntry, oldLt, oldEq, oldRisingFrom, oldRising, oldSound, oldHolders, oldCobOf, oldLookup, oldInserted, oldInsert, oldInsertedList, oldRemoved, oldDelete, oldDeletedList, oldListable, oldCobs, oldFiles, oldListing, oldListedOut, widened, asEntry}
+use Rattle.entries.specs.Catalogue.{before, holders, after, onward, sound, matches, cobOf, foundBy, lookupOf, changed, inserted, insertNumber, insertOf, insertedList}
+use Rattle.entries.specs.Catalogue.{removed, deleteNumber, deleteOf, deletedList, cobs, files, listingTests, pageBy, listingOf, listedOut}
+use Rattle.entries.specs.Old.{OldEntry, oldLt, oldEq, oldRisingFrom, oldRising, oldSound, oldHolders, oldCobOf, oldLookup, oldInserted, oldInsert}
+use Rattle.entries.specs.Old.{oldInsertedList, oldRemoved, oldDelete, oldDeletedList, oldListable, oldCobs, oldFiles, oldListing, oldListedOut, widened, asEntry}
 use Rattle.entries.specs.Maps.{map-append, map-take, map-replicate, map-over, nonempty-map, grant-on}
 
 pub widened-lt : (a b : ℕ) → wideLt (widened a) (widened b) ≡ ltb a b

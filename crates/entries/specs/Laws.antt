@@ -19,7 +19,8 @@ use Rattle.entries.specs.Key.{keyOf, keyLt, keyEq, rising, risingFrom}
 use Rattle.entries.specs.Orders.{Lt, lt-of, lt-trans, lt-irrefl, lt-ne, gt-ne, eq-refl, Cmp, below, equal, above, cmp, same, less}
 use Rattle.entries.specs.Splits.{first-lt, rest-rises, cons-rises, above-all, Split, new, old, split, rising-tail}
 use Rattle.entries.specs.Looks.{heldCob, found-is}
-use Rattle.entries.specs.Catalogue.{before, holders, after, sound, foundBy, lookupOf, inserted, insertNumber, insertOf, insertedList, removed, deleteNumber, deleteOf, deletedList, changed, changedList}
+use Rattle.entries.specs.Catalogue.{before, holders, after, sound, foundBy, lookupOf, inserted, insertNumber, insertOf}
+use Rattle.entries.specs.Catalogue.{insertedList, removed, deleteNumber, deleteOf, deletedList, changed, changedList}
 
 -- ---- rising lists
 pub lower : (a b : Key) (xs : List Entry) → Lt a b → risingFrom b xs ≡ true → risingFrom a xs ≡ true

@@ -18,7 +18,8 @@ use Rattle.entries.specs.declared.Page.{Page}
 use Rattle.entries.specs.Wide.{nought}
 use Rattle.entries.specs.Blank.{blank}
 use Rattle.entries.specs.Key.{keyOf, keyEq}
-use Rattle.entries.specs.Catalogue.{sound, onward, cobs, lookupTests, lookupOf, insertTests, insertNumber, insertOf, insertedList, deleteTests, deleteNumber, deleteOf, deletedList, listingTests, listingOf, listedOut}
+use Rattle.entries.specs.Catalogue.{sound, onward, cobs, lookupTests, lookupOf, insertTests, insertNumber, insertOf}
+use Rattle.entries.specs.Catalogue.{insertedList, deleteTests, deleteNumber, deleteOf, deletedList, listingTests, listingOf, listedOut}
 use Rattle.entries.specs.Promise.{Lookup, Insert, Delete, Listing}
 use Rattle.entries.specs.Laws as L
 use Rattle.entries.specs.Slots as S

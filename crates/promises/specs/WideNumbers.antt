@@ -14,7 +14,8 @@ use Rattle.entries.specs.Wide.{wideLt, wideEq, numberOf}
 use Rattle.entries.specs.WideOrder.{wide-order, wide-equal}
 use Rattle.entries.specs.Key.{keyOf, keyLt, keyEq, listable}
 use Rattle.entries.specs.Catalogue.{lookupOf, insertOf, insertedList, deleteOf, deletedList, listingOf, listedOut}
-use Rattle.entries.specs.Old.{OldEntry, oldLt, oldEq, oldListable, oldHolders, oldCobOf, oldLookup, oldInserted, oldInsert, oldInsertedList, oldRemoved, oldDelete, oldDeletedList, oldCobs, oldFiles, oldListing, oldListedOut, widened, asEntry}
+use Rattle.entries.specs.Old.{OldEntry, oldLt, oldEq, oldListable, oldHolders, oldCobOf, oldLookup, oldInserted, oldInsert, oldInsertedList}
+use Rattle.entries.specs.Old.{oldRemoved, oldDelete, oldDeletedList, oldCobs, oldFiles, oldListing, oldListedOut, widened, asEntry}
 use Rattle.entries.specs.Embedding as E
 
 -- ---- the order
