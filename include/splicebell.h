@@ -28,7 +28,8 @@ enum splicebell_refusal {
     SPLICEBELL_ACCEPTED = 0,
     SPLICEBELL_BAD_LAYOUT = 1,         /* a layout number outside its bounds */
     SPLICEBELL_BAD_IMAGE_LENGTH = 2,   /* the image is not of its exact length */
-    SPLICEBELL_BAD_RECORD = 3,         /* the failure record is bad */
+    SPLICEBELL_BAD_RECORD = 3,         /* the failure record is bad, or its count of missing units is above
+                                        * T*C*(N+K), or a fail would raise it above */
     SPLICEBELL_OUTSIDE = 4,            /* tile, group, unit, frame, target, offset or range outside,
                                         * or more than 64 ranges in a list */
     SPLICEBELL_BAD_BUFFER_LENGTH = 5,  /* a unit, group, scratch, line, text or list buffer of wrong length,
@@ -40,7 +41,8 @@ enum splicebell_refusal {
     SPLICEBELL_CATALOGUE_FULL = 10,    /* no free slot, and the key is new */
     SPLICEBELL_NO_SUCH_RECORD = 11,    /* no record of that key, or none that matches in all three */
     SPLICEBELL_WRONG_LINE = 12,        /* a text that is not the hex lines of a pool of this layout */
-    SPLICEBELL_BAD_TRACE = 13          /* a malformed line of a trace, or a pool too large for a replay */
+    SPLICEBELL_BAD_TRACE = 13,         /* a malformed line of a trace, or a pool too large for a replay */
+    SPLICEBELL_WRONG_COUNT = 14        /* the record's count of missing units is not the true one */
 };
 
 /* N data, K parity and K spare units a group, P targets, U bytes a unit, T tiles, the permutations' cookie. */
@@ -48,10 +50,11 @@ typedef struct splicebell_layout {
     uint64_t n, k, p, u, t, cookie;
 } splicebell_layout;
 
-/* The first k entries are the failed targets, in order; the first q of them have been repaired. */
+/* The first k entries are the failed targets, in order; the first q of them have been repaired. waiting is the
+ * count of missing units. All zeros: nothing has failed. */
 typedef struct splicebell_record {
     uint64_t failed[3];
-    uint64_t k, q;
+    uint64_t k, q, waiting;
 } splicebell_record;
 
 /* W = N+2K units a group, B = lcm(W, P), L rows and C groups a tile, frames of a target, groups, bytes of
@@ -123,6 +126,12 @@ typedef struct splicebell_repaired {
     uint64_t refusal, count;
     splicebell_record record;
 } splicebell_repaired;
+
+/* What the service panel shows: how many units await repair, how many targets have failed, and how many of
+ * these have been repaired. */
+typedef struct splicebell_counts {
+    uint64_t refusal, waiting, failed, repaired;
+} splicebell_counts;
 
 /* Where a unit is shown: in the scratch where it is missing, else in the image. */
 typedef struct splicebell_shown {
@@ -231,10 +240,14 @@ uint64_t splicebell_encode(splicebell_layout y, uint8_t *buf, size_t len);
 uint64_t splicebell_rebuild(splicebell_layout y, const uint64_t *missing, size_t missing_count,
                             uint8_t *buf, size_t len);
 
-/* ---- the pool: every call tests the layout (1), the image's length (2), the record (3), then its own */
+/* ---- the pool: every call tests the layout (1), the image's length (2), the record with its count (3), then
+ * its own. From a true count every call keeps it true. Panel, audit, number 3 and the record handed back depend
+ * on the count, and nothing else does. */
 
-/* The record with one failed target more; the image is lent for its length alone.
- * Refusals: 1, 2, 3, 4 (target >= P), 6, 7. Refused: the record as it was. */
+/* The record with one failed target more, and its count raised by the contents whose home under the first q
+ * entries was on that target; the image is lent for its length alone.
+ * Refusals: 1, 2, 3 (also where nothing else is wrong and the count would be raised above T*C*(N+K)), 4
+ * (target >= P), 6, 7. Refused: the record as it was. */
 splicebell_failed splicebell_fail(splicebell_layout y, splicebell_record r, const uint8_t *image,
                                   size_t image_len, uint64_t target);
 
@@ -257,10 +270,22 @@ splicebell_list_written splicebell_write_list(splicebell_layout y, splicebell_re
                                               size_t image_len, const splicebell_range *ranges,
                                               size_t range_count, const uint8_t *bytes, size_t bytes_len);
 
-/* Stores every missing content at its new home; answers how many there were, and the record with q = k.
+/* Stores every missing content at its new home; answers how many there were, counted afresh, and the record
+ * with q = k and its count 0.
  * Refusals: 1, 2, 3. Refused: image and record are unchanged. */
 splicebell_repaired splicebell_repair(splicebell_layout y, splicebell_record r, uint8_t *image,
                                       size_t image_len);
+
+/* What the service panel shows, as the record has it: nothing is counted. The image is lent for its length
+ * alone.
+ * Refusals: 1, 2, 3. Refused: the other three numbers are 0. */
+splicebell_counts splicebell_panel(splicebell_layout y, splicebell_record r, const uint8_t *image,
+                                   size_t image_len);
+
+/* Whether the record's count is that of the missing units, which are counted afresh. The image is lent for its
+ * length alone.
+ * Refusals: 1, 2, 3, 14 (another count). */
+uint64_t splicebell_audit(splicebell_layout y, splicebell_record r, const uint8_t *image, size_t image_len);
 
 /* A look's first step: the scratch of U bytes becomes the rebuilt unit if it is missing, else zeros.
  * Refusals: 1, 2, 3, 4 (group or content), 5 (scratch). Refused: the scratch is all zeros. */

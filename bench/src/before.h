@@ -6,11 +6,30 @@
 
 uint64_t before_encode(splicebell_layout y, uint8_t *buf, size_t len);
 uint64_t before_rebuild(splicebell_layout y, const uint64_t *missing, size_t missing_count, uint8_t *buf, size_t len);
-uint64_t before_read(splicebell_layout y, splicebell_record r, const uint8_t *image, size_t image_len, uint64_t offset,
+
+/* The failure record as it was before document 02's order 6, without the count of missing units: 40 bytes. */
+typedef struct before_record {
+    uint64_t failed[3];
+    uint64_t k, q;
+} before_record;
+
+typedef struct before_failed {
+    uint64_t refusal;
+    before_record record;
+} before_failed;
+
+typedef struct before_repaired {
+    uint64_t refusal, count;
+    before_record record;
+} before_repaired;
+
+uint64_t before_read(splicebell_layout y, before_record r, const uint8_t *image, size_t image_len, uint64_t offset,
                      uint8_t *out, size_t out_len);
-uint64_t before_write(splicebell_layout y, splicebell_record r, uint8_t *image, size_t image_len, uint64_t offset,
+uint64_t before_write(splicebell_layout y, before_record r, uint8_t *image, size_t image_len, uint64_t offset,
                       const uint8_t *bytes, size_t bytes_len);
-splicebell_repaired before_repair(splicebell_layout y, splicebell_record r, uint8_t *image, size_t image_len);
+before_repaired before_repair(splicebell_layout y, before_record r, uint8_t *image, size_t image_len);
+before_failed before_fail(splicebell_layout y, before_record r, const uint8_t *image, size_t image_len,
+                          uint64_t target);
 
 /* The catalogue as it was before document 02's order 5, with file and cob numbers of one word: records of 24 bytes. */
 typedef struct before_entry {

@@ -164,7 +164,7 @@ static void table(uint64_t tiles)
            "%-36s %9s %20s %20s\n", size, "microseconds a list (a list / it)", "a list", "one by one", "Rust twin");
     compare_refusals(&p);
     for (uint64_t missing = 0; missing <= 1; missing++) {
-        p.r = failures(missing);
+        p.r = failures(&p, 0, missing);
         for (size_t i = 0; i < sizeof kinds / sizeof *kinds; i++)
             row(&p, &kinds[i], size);
     }

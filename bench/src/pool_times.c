@@ -47,7 +47,7 @@ static void compare(uint64_t failed)
     struct pool a = bench_pool(6), b = bench_pool(6);
     static const char *const order[] = {"write-group-by-group", "write-1", "write-4K", "read-groups", "repair"};
     b.calls = &twin_calls;
-    a.r = b.r = failures(failed);
+    a.r = b.r = failures(&a, 0, failed);
     for (size_t i = 0; i < sizeof order / sizeof *order; i++) {
         fill(a.file, a.m.capacity, i);
         memcpy(b.file, a.file, a.m.capacity);
@@ -160,7 +160,7 @@ static void failed(struct pool *p, const char *size, bool in_cache, uint64_t cou
         const char *what, *name;
     } rows[] = {{"write, 32 whole groups a call", "write-groups"}, {"read, 32 whole groups a call", "read-groups"},
                 {"write, 4 KiB at random", "write-4K"},            {"read, 4 KiB at random", "read-4K"}};
-    p->r = failures(count);
+    p->r = failures(p, 0, count);
     char what[80];
     double seconds;
     for (size_t i = 0; i < sizeof rows / sizeof *rows; i++) {

@@ -6,10 +6,51 @@
 #include <stdlib.h>
 #include <string.h>
 
-const struct answerer our_calls = {"ours", splicebell_read, splicebell_write, splicebell_repair};
-const struct answerer twin_calls = {"Rust twin", twin_read, twin_write, twin_repair};
+const struct answerer our_calls = {
+    "ours", splicebell_read, splicebell_write, splicebell_repair, splicebell_fail, splicebell_audit, splicebell_panel,
+};
+const struct answerer twin_calls = {"Rust twin", twin_read, twin_write, twin_repair, twin_fail, twin_audit, NULL};
+
 #ifdef WITH_BEFORE
-static const struct answerer before_calls = {"before", before_read, before_write, before_repair};
+/* The earlier calls, by a record without the count. What they hand back has none: it is 0, as after any repair. */
+static before_record short_record(splicebell_record r)
+{
+    return (before_record){{r.failed[0], r.failed[1], r.failed[2]}, r.k, r.q};
+}
+
+static splicebell_record long_record(before_record r)
+{
+    return (splicebell_record){{r.failed[0], r.failed[1], r.failed[2]}, r.k, r.q, 0};
+}
+
+static uint64_t read_before(splicebell_layout y, splicebell_record r, const uint8_t *image, size_t image_len,
+                            uint64_t offset, uint8_t *out, size_t out_len)
+{
+    return before_read(y, short_record(r), image, image_len, offset, out, out_len);
+}
+
+static uint64_t write_before(splicebell_layout y, splicebell_record r, uint8_t *image, size_t image_len,
+                             uint64_t offset, const uint8_t *bytes, size_t bytes_len)
+{
+    return before_write(y, short_record(r), image, image_len, offset, bytes, bytes_len);
+}
+
+static splicebell_repaired repair_before(splicebell_layout y, splicebell_record r, uint8_t *image, size_t image_len)
+{
+    before_repaired x = before_repair(y, short_record(r), image, image_len);
+    return (splicebell_repaired){x.refusal, x.count, long_record(x.record)};
+}
+
+static splicebell_failed fail_before(splicebell_layout y, splicebell_record r, const uint8_t *image, size_t image_len,
+                                     uint64_t target)
+{
+    before_failed x = before_fail(y, short_record(r), image, image_len, target);
+    return (splicebell_failed){x.refusal, long_record(x.record)};
+}
+
+static const struct answerer before_calls = {
+    "before", read_before, write_before, repair_before, fail_before, NULL, NULL,
+};
 #endif
 
 const struct answerer *const answerers[ANSWERERS] = {
@@ -52,9 +93,29 @@ void pool_free(struct pool *p)
     free(p->out);
 }
 
-splicebell_record failures(uint64_t count)
+uint64_t failing(uint64_t i)
 {
-    return (splicebell_record){.failed = {5, 11, 17}, .k = count, .q = 0};
+    static const uint64_t targets[] = {5, 11, 17};
+    must(i < sizeof targets / sizeof *targets, "room in the record");
+    return targets[i];
+}
+
+static splicebell_record with_failures(const struct pool *p, splicebell_record r, uint64_t count)
+{
+    for (; count; count--) {
+        splicebell_failed f = splicebell_fail(p->y, r, p->image, p->m.image, failing(r.k));
+        must(f.refusal == 0, "fail accepted");
+        r = f.record;
+    }
+    return r;
+}
+
+splicebell_record failures(const struct pool *p, uint64_t repaired, uint64_t waiting)
+{
+    splicebell_record r = with_failures(p, (splicebell_record){0}, repaired);
+    splicebell_repaired x = splicebell_repair(p->y, r, p->image, p->m.image);
+    must(x.refusal == 0, "repair accepted");
+    return with_failures(p, x.record, waiting);
 }
 
 static uint64_t group_bytes(const struct pool *p)

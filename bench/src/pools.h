@@ -5,12 +5,15 @@
 #include "bench.h"
 #include "splicebell.h"
 
-/* Who answers the pool's calls: ours, the twin, or an earlier archive. */
+/* Who answers the pool's calls: ours, the twin, or an earlier archive. A call that it has not is NULL. */
 struct answerer {
     const char *name;
     uint64_t (*read)(splicebell_layout, splicebell_record, const uint8_t *, size_t, uint64_t, uint8_t *, size_t);
     uint64_t (*write)(splicebell_layout, splicebell_record, uint8_t *, size_t, uint64_t, const uint8_t *, size_t);
     splicebell_repaired (*repair)(splicebell_layout, splicebell_record, uint8_t *, size_t);
+    splicebell_failed (*fail)(splicebell_layout, splicebell_record, const uint8_t *, size_t, uint64_t);
+    uint64_t (*audit)(splicebell_layout, splicebell_record, const uint8_t *, size_t);
+    splicebell_counts (*panel)(splicebell_layout, splicebell_record, const uint8_t *, size_t);
 };
 extern const struct answerer our_calls, twin_calls;
 
@@ -46,7 +49,10 @@ struct pool pool_of(uint64_t n, uint64_t k, uint64_t p, uint64_t u, uint64_t t);
 struct pool bench_pool(uint64_t tiles);
 void pool_free(struct pool *p);
 
-/* A record of that many failures, none repaired. */
-splicebell_record failures(uint64_t count);
+/* The target that fails as the i-th, from 0 on. */
+uint64_t failing(uint64_t i);
+
+/* A record of failed targets, the first of them repaired, by our calls on the pool: so its count is the true one. */
+splicebell_record failures(const struct pool *p, uint64_t repaired, uint64_t waiting);
 
 #endif

@@ -84,7 +84,7 @@ static void draw_lost_units(struct pool *p)
 static void lost_row(uint64_t n, uint64_t k, uint64_t failed)
 {
     struct pool p = pool_of(n, k, 24, 512, 8);
-    p.r = failures(failed);
+    p.r = failures(&p, 0, failed);
     draw_lost_units(&p);
     struct pool others[ANSWERERS];
     struct timed t[ANSWERERS];

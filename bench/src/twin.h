@@ -15,6 +15,9 @@ splicebell_list_written twin_write_list(splicebell_layout y, splicebell_record r
                                         const splicebell_range *ranges, size_t range_count, const uint8_t *bytes,
                                         size_t bytes_len);
 splicebell_repaired twin_repair(splicebell_layout y, splicebell_record r, uint8_t *image, size_t image_len);
+splicebell_failed twin_fail(splicebell_layout y, splicebell_record r, const uint8_t *image, size_t image_len,
+                            uint64_t target);
+uint64_t twin_audit(splicebell_layout y, splicebell_record r, const uint8_t *image, size_t image_len);
 uint64_t twin_write_text(splicebell_layout y, const uint8_t *image, size_t image_len, uint8_t *text, size_t text_len);
 splicebell_text_read twin_read_text(splicebell_layout y, const uint8_t *text, size_t text_len, uint8_t *image,
                                     size_t image_len);

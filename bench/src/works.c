@@ -7,10 +7,11 @@
  *     map:ours
  *     catalogue:lookup:10000:ours     records
  *     text:write:4096:ours            bytes of a unit, of a pool of 20 tiles
+ *     count:panel:8+2:24:20:ours      a call about the count of missing units: code, targets, tiles
  */
 #include "catalogue.h"
 #include "coders.h"
-#include "pools.h"
+#include "counts.h"
 #include "products.h"
 #include "texts.h"
 #include "twin.h"
@@ -61,7 +62,7 @@ static int work_on_pool(const char *name, long repeats)
     must(sscanf(name, "pool:%29[^:]:%d+%d:%d:%d:%19[^:]", pass_name, &n, &k, &tiles, &failed, who) == 6, name);
     struct pool p = pool_of(n, k, 24, 4096, tiles);
     const struct pass *pass = pass_named(pass_name);
-    p.r = failures(failed);
+    p.r = failures(&p, 0, failed);
     p.calls = strcmp(who, "ours") == 0 ? &our_calls : &twin_calls;
     pass->work(&p); /* so that the count of rebuilt units is there */
     return repeat(pass->work, &p, repeats, pass->bytes(&p), pass->calls(&p));
@@ -106,6 +107,17 @@ static int work_on_text(const char *name, long repeats)
     return repeat(strcmp(call, "write") == 0 ? write_whole_text : read_whole_text, &t, repeats, t.text_len, 1);
 }
 
+static int work_on_count(const char *name, long repeats)
+{
+    char what[40], who[20];
+    int n, k, targets, tiles;
+    must(sscanf(name, "count:%39[^:]:%d+%d:%d:%d:%19[^:]", what, &n, &k, &targets, &tiles, who) == 6, name);
+    struct pool p = pool_of(n, k, targets, 4096, tiles);
+    const struct count_call *call = count_call_named(what);
+    p = pool_for(&p, call, strcmp(who, "ours") == 0 ? &our_calls : &twin_calls);
+    return repeat(call->work, &p, repeats, call->calls, call->calls);
+}
+
 static int work_on_pairs(const char *name, long repeats)
 {
     static struct pairs p;
@@ -129,6 +141,8 @@ int do_work(const char *name, long repeats)
         return work_on_catalogue(name, repeats);
     if (strncmp(name, "text:", 5) == 0)
         return work_on_text(name, repeats);
+    if (strncmp(name, "count:", 6) == 0)
+        return work_on_count(name, repeats);
     return work_on_group(name, repeats);
 }
 
@@ -169,6 +183,20 @@ static void list_catalogues(void)
             printf("catalogue:%s:%d:ours\ncatalogue:%s:%d:Rust twin\n", calls[i], n, calls[i], n);
 }
 
+/* Over pools of 2 MB, and two of ours over one of 16 times as many tiles. */
+static void list_counts(void)
+{
+    static const char *const pools[] = {"8+2:24:20", "5+2:23:2"};
+    for (size_t i = 0; i < sizeof pools / sizeof *pools; i++)
+        for (size_t j = 0; j < count_call_count; j++) {
+            const struct count_call *c = &count_calls[j];
+            printf("count:%s:%s:ours\n", c->what, pools[i]);
+            if (has_call(&twin_calls, c))
+                printf("count:%s:%s:Rust twin\n", c->what, pools[i]);
+        }
+    printf("count:fail, none failed:8+2:24:320:ours\ncount:panel:8+2:24:320:ours\n");
+}
+
 int list_works(void)
 {
     printf("product:ours\nproduct:shifting\nproduct:Rust twin\n");
@@ -178,5 +206,6 @@ int list_works(void)
     list_catalogues();
     for (int u = 512; u <= 4096; u *= 8)
         printf("text:write:%d:ours\ntext:write:%d:Rust twin\ntext:read:%d:ours\ntext:read:%d:Rust twin\n", u, u, u, u);
+    list_counts();
     return 0;
 }

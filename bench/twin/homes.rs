@@ -8,6 +8,7 @@ pub struct Record {
     pub failed: [u64; 3],
     pub k: u64,
     pub q: u64,
+    pub waiting: u64,
 }
 
 /// Goes over groups in order, and makes the permutation of a tile once.
@@ -35,14 +36,30 @@ impl<'a> Tiles<'a> {
         Tiles { shape, tile: None, permutation: [0; 64] }
     }
 
-    /// Frame and target of each unit of a group.
-    fn places(&mut self, group: u64) -> Vec<(u64, u64)> {
-        let tile = group / self.shape.groups_in_tile;
+    fn go_to(&mut self, tile: u64) {
         if self.tile != Some(tile) {
             self.permutation = self.shape.permutation(tile);
             self.tile = Some(tile);
         }
+    }
+
+    /// The column of a target in a tile.
+    pub fn column(&mut self, tile: u64, target: u64) -> u64 {
+        self.go_to(tile);
+        let at = self.permutation.iter().position(|&t| u64::from(t) == target);
+        at.expect("a column for each target") as u64
+    }
+
+    /// Frame and target of each unit of a group.
+    fn places(&mut self, group: u64) -> Vec<(u64, u64)> {
+        self.go_to(group / self.shape.groups_in_tile);
         (0..self.shape.width).map(|u| self.shape.place(&self.permutation, group, u)).collect()
+    }
+
+    /// Whether a unit is a content's home under the repaired targets.
+    pub fn is_home(&mut self, record: &Record, group: u64, unit: u64) -> bool {
+        let places = self.places(group);
+        self.homes(&places, &record.failed[..record.q as usize]).contains(&(unit as usize))
     }
 
     pub fn group(&mut self, record: &Record, group: u64) -> Group {

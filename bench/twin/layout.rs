@@ -64,6 +64,12 @@ impl Shape {
         (frame, permutation[(x % self.layout.p) as usize] as u64)
     }
 
+    /// Group and unit at a row and column of a tile: what undoes `place`.
+    pub fn unit_at(&self, tile: u64, row: u64, column: u64) -> (u64, u64) {
+        let x = self.layout.p * row + column;
+        (self.groups_in_tile * tile + x / self.width, x % self.width)
+    }
+
     pub fn image_byte(&self, (frame, target): (u64, u64)) -> usize {
         ((target * self.rows * self.layout.t + frame) * self.layout.u) as usize
     }

@@ -1,9 +1,10 @@
 //! A plain Rust twin of the calls that are timed, to compare with: the same layout, the same bytes, no proofs and no
-//! tests of what is passed, but for the text that is read, the list that is written and the catalogue. The C side is
-//! declared in `src/twin.h`, with the types of `splicebell.h`.
+//! tests of what is passed, but for the text that is read, the list that is written, the count that is audited and the
+//! catalogue. The C side is declared in `src/twin.h`, with the types of `splicebell.h`.
 
 mod catalogue;
 mod code;
+mod count;
 mod field;
 mod homes;
 mod layout;
@@ -33,6 +34,12 @@ pub struct Repaired {
 }
 
 #[repr(C)]
+pub struct Failed {
+    refusal: u64,
+    record: Record,
+}
+
+#[repr(C)]
 pub struct TextRead {
     refusal: u64,
     line: u64,
@@ -54,8 +61,8 @@ pub unsafe extern "C" fn twin_products(a: *const u8, b: *const u8, out: *mut u8,
     }
 }
 
-/// Answers 0, as every call here but the reader of a text, the writer of a list and the catalogue's: what is passed is
-/// taken to be sound.
+/// Answers 0, as every call here but the reader of a text, the writer of a list, the audit and the catalogue's: what is
+/// passed is taken to be sound.
 ///
 /// # Safety
 /// `group` leads to `length` bytes that nothing else touches.
@@ -157,7 +164,28 @@ pub unsafe extern "C" fn twin_repair(
     image_length: usize,
 ) -> Repaired {
     let count = pool::repair(y, &r, from_raw_parts_mut(image, image_length));
-    Repaired { refusal: 0, count, record: Record { q: r.k, ..r } }
+    Repaired { refusal: 0, count, record: Record { q: r.k, waiting: 0, ..r } }
+}
+
+/// The image is lent for its length alone, here and in the audit, and the twin does not test that.
+#[no_mangle]
+pub extern "C" fn twin_fail(
+    y: Layout,
+    r: Record,
+    _image: *const u8,
+    _image_length: usize,
+    target: u64,
+) -> Failed {
+    Failed { refusal: 0, record: count::fail(y, r, target) }
+}
+
+#[no_mangle]
+pub extern "C" fn twin_audit(y: Layout, r: Record, _image: *const u8, _image_length: usize) -> u64 {
+    if count::is_true(y, &r) {
+        0
+    } else {
+        14
+    }
 }
 
 /// # Safety

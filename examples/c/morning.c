@@ -39,6 +39,15 @@ static void show(pool p, uint64_t at, size_t bytes) {
     printf("The claims desk reads \"%s\" at %" PRIu64 ".\n", photograph, at);
 }
 
+/* What the service panel shows, once an audit has found its count true. */
+static void panel(pool p) {
+    accepted(splicebell_audit(row, p.record, p.image, p.length));
+    splicebell_counts shown = splicebell_panel(row, p.record, p.image, p.length);
+    accepted(shown.refusal);
+    printf("The service panel shows units that wait for repair: %" PRIu64 ", drives failed: %" PRIu64
+           ", repaired: %" PRIu64 ".\n", shown.waiting, shown.failed, shown.repaired);
+}
+
 static void dump(pool p, uint64_t frames) {
     uint8_t line[11 + 2 * 8];
     for (uint64_t target = 0; target < row.p; target++) {
@@ -117,6 +126,7 @@ int main(void) {
     p.record = failed.record;
     memset(p.image + LOST * (p.length / row.p), 0xff, p.length / row.p);
     printf("Drive %d dies, and what stood on it is lost.\n", LOST);
+    panel(p);
     show(p, 0, strlen(first));
     show(p, SECOND_AT, strlen(second));
     show(p, TAG_AT, strlen(tag));
@@ -125,6 +135,7 @@ int main(void) {
     accepted(repaired.refusal);
     p.record = repaired.record;
     printf("The row is repaired: %" PRIu64 " units were missing.\n", repaired.count);
+    panel(p);
     show(p, 0, strlen(first));
     show(p, SECOND_AT, strlen(second));
     printf("The drives now, each line a drive, a frame and its bytes:\n");

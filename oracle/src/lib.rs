@@ -13,6 +13,7 @@ pub mod layout;
 pub mod permutation;
 pub mod place;
 pub mod pool;
+pub mod pool_count;
 pub mod pool_list;
 pub mod pool_text;
 pub mod programs;

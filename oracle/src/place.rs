@@ -7,7 +7,7 @@
 //! group = x div (N·U), unit = (x mod N·U) div U, the rest is the byte."
 //! "Frame r of target p begins at p·L·T·U + r·U."
 
-use crate::layout::Layout;
+use crate::layout::{Layout, Numbers};
 use crate::permutation::{inverse, permutation};
 
 /// A frame of a target, and where it begins in the image.
@@ -51,6 +51,22 @@ pub(crate) fn begins(layout: &Layout, frame: u64, target: u64) -> u64 {
     target * layout.derived().frames * layout.u + frame * layout.u
 }
 
+/// The frame and the column of a unit, inside a layout with these numbers.
+fn cell(layout: &Layout, numbers: &Numbers, group: u64, unit: u64) -> (u64, usize) {
+    let tile = group / numbers.c;
+    let x = numbers.w * (group % numbers.c) + unit;
+    (numbers.l * tile + x / layout.p, (x % layout.p) as usize)
+}
+
+/// The targets of the W units of a group that the layout has.
+pub fn unit_targets(layout: &Layout, group: u64) -> Vec<u64> {
+    let numbers = layout.derived();
+    let columns = permutation(layout, group / numbers.c).1;
+    (0..numbers.w)
+        .map(|unit| columns[cell(layout, &numbers, group, unit).1])
+        .collect()
+}
+
 /// Public call: (group, unit) to its place; refusals 1, 4.
 pub fn place(layout: &Layout, group: u64, unit: u64) -> (u64, Place) {
     let (refusal, numbers) = layout.numbers();
@@ -60,10 +76,8 @@ pub fn place(layout: &Layout, group: u64, unit: u64) -> (u64, Place) {
     if group >= numbers.groups || unit >= numbers.w {
         return (4, Place::default());
     }
-    let tile = group / numbers.c;
-    let x = numbers.w * (group % numbers.c) + unit;
-    let frame = numbers.l * tile + x / layout.p;
-    let target = permutation(layout, tile).1[(x % layout.p) as usize];
+    let (frame, column) = cell(layout, &numbers, group, unit);
+    let target = permutation(layout, group / numbers.c).1[column];
     let begins = begins(layout, frame, target);
     (
         0,

@@ -7,22 +7,30 @@
 //! content's home and lies on none of the targets listed up to and including
 //! this one." "A content is present if its home under the first q entries is on
 //! none of the k targets, else missing."
+//!
+//! Document 02, order 6: "Carry the count in the failure record. Fail raises it
+//! by the contents whose home under the first q entries was on that target;
+//! repair sets it to 0; nothing else changes it." [`crate::pool_count`] counts.
 
 use crate::group::{data_of, encoded, Bytes};
 use crate::layout::{range_refusal, Layout};
-use crate::place::place;
+use crate::place::{place, unit_targets};
+use crate::pool_count::{contents_on, most_missing};
 
-/// The failure record: three entries, k and q, any values.
+/// The failure record: three entries, k, q and the count of missing units, any
+/// values.
 #[derive(Clone, Copy, Debug, Default, PartialEq, Eq)]
 pub struct Record {
     pub failed: [u64; 3],
     pub k: u64,
     pub q: u64,
+    pub waiting: u64,
 }
 
 impl Record {
     /// Refusal 3: "k > K, q > k, an entry among the first k that is ≥ P or
-    /// occurs twice", else 0. The layout is an accepted one.
+    /// occurs twice", and by order 6 "A count above T·C·(N+K)", else 0. The
+    /// layout is an accepted one.
     fn refusal(&self, layout: &Layout) -> u64 {
         if self.k > layout.k || self.q > self.k {
             return 3;
@@ -30,7 +38,7 @@ impl Record {
         let listed = self.listed();
         let outside = listed.iter().any(|target| *target >= layout.p);
         let twice = (0..listed.len()).any(|i| listed[..i].contains(&listed[i]));
-        if outside || twice {
+        if outside || twice || self.waiting > most_missing(layout) {
             3
         } else {
             0
@@ -38,12 +46,12 @@ impl Record {
     }
 
     /// The k failed targets.
-    fn listed(&self) -> &[u64] {
+    pub(crate) fn listed(&self) -> &[u64] {
         &self.failed[..self.k as usize]
     }
 
     /// The q repaired ones among them.
-    fn repaired(&self) -> &[u64] {
+    pub(crate) fn repaired(&self) -> &[u64] {
         &self.failed[..self.q as usize]
     }
 }
@@ -63,13 +71,6 @@ pub fn homes(contents: usize, targets: &[u64], list: &[u64]) -> Vec<usize> {
         }
     }
     homes
-}
-
-/// The targets of the W units of a group that the layout has.
-pub fn unit_targets(layout: &Layout, group: u64) -> Vec<u64> {
-    (0..layout.derived().w)
-        .map(|unit| place(layout, group, unit).1.target)
-        .collect()
 }
 
 /// What the record says about one group.
@@ -211,17 +212,26 @@ fn write_group(
 
 /// Public call: marks a target as failed; refusals 1, 2, 3, 4, 6, 7, and then
 /// the record comes back unchanged.
+///
+/// Order 6: a count "that an otherwise accepted fail would raise above"
+/// T·C·(N+K) "is 3".
 pub fn fail(layout: &Layout, record: &Record, image: &[u8], target: u64) -> (u64, Record) {
-    let refusal = fail_refusal(layout, record, image, target);
-    let mut after = *record;
-    if refusal == 0 {
-        after.failed[record.k as usize] = target;
-        after.k += 1;
+    let refusal = refusal_otherwise(layout, record, image, target);
+    if refusal != 0 {
+        return (refusal, *record);
     }
-    (refusal, after)
+    let waiting = record.waiting + contents_on(layout, record, target);
+    if waiting > most_missing(layout) {
+        return (3, *record);
+    }
+    let mut after = Record { waiting, ..*record };
+    after.failed[record.k as usize] = target;
+    after.k += 1;
+    (0, after)
 }
 
-fn fail_refusal(layout: &Layout, record: &Record, image: &[u8], target: u64) -> u64 {
+/// What speaks against a fail, but for the count that it would raise.
+fn refusal_otherwise(layout: &Layout, record: &Record, image: &[u8], target: u64) -> u64 {
     match pool_refusal(layout, record, image) {
         0 if target >= layout.p => 4,
         0 if record.listed().contains(&target) => 6,
@@ -235,7 +245,7 @@ fn fail_refusal(layout: &Layout, record: &Record, image: &[u8], target: u64) -> 
 ///
 /// Document 01: "Repair stores every missing content at its home under the
 /// whole list, sets q = k, and answers with how many (group, content) pairs
-/// were missing before."
+/// were missing before." Order 6: "repair sets it to 0".
 pub fn repair(layout: &Layout, record: &Record, image: &mut [u8]) -> (u64, Record, u64) {
     let refusal = pool_refusal(layout, record, image);
     if refusal != 0 {
@@ -255,6 +265,7 @@ pub fn repair(layout: &Layout, record: &Record, image: &mut [u8]) -> (u64, Recor
     }
     let after = Record {
         q: record.k,
+        waiting: 0,
         ..*record
     };
     (0, after, missing)
@@ -325,6 +336,7 @@ mod tests {
     use super::*;
     use crate::draws::Draws;
     use crate::layout::layout;
+    use crate::pool_count::audit;
 
     /// A pool beside the file that it should hold.
     struct Beside {
@@ -366,7 +378,8 @@ mod tests {
             }
         }
 
-        /// Each present content holds its encoding, and a read shows the file.
+        /// Each present content holds its encoding, a read shows the file, and
+        /// the count is true.
         fn check(&self) {
             let u = self.layout.u as usize;
             let group_bytes = (self.layout.n * self.layout.u) as usize;
@@ -385,6 +398,7 @@ mod tests {
                 0
             );
             assert_eq!(out, self.file);
+            assert_eq!(audit(&self.layout, &self.record, &self.image), 0);
         }
     }
 
@@ -423,7 +437,15 @@ mod tests {
     #[test]
     fn a_bad_record_is_refused_3() {
         let shape = layout(1, 2, 6, 4, 1, 0);
-        let refusal = |failed, k, q| Record { failed, k, q }.refusal(&shape);
+        let refusal = |failed, k, q| {
+            let record = Record {
+                failed,
+                k,
+                q,
+                waiting: 0,
+            };
+            record.refusal(&shape)
+        };
         assert_eq!(refusal([5, 4, 9], 2, 2), 0);
         assert_eq!(refusal([5, 5, 5], 1, 1), 0);
         assert_eq!(refusal([5, 5, 0], 2, 0), 3);

@@ -469,6 +469,30 @@ mod tests {
         }
     }
 
+    #[test]
+    fn the_lines_keep_the_count_of_missing_units() {
+        let mut image = [0; 48];
+        let mut record = Record::default();
+        let mut lines = |line: &str| {
+            let played = play_line(&four(), &record, &mut image, line.as_bytes(), 120);
+            record = played.record;
+            (played.answer, record.waiting)
+        };
+        assert_eq!(lines("02 03\n"), (b"0\n".to_vec(), 2));
+        assert_eq!(lines("02 03\n"), (b"6\n".to_vec(), 2));
+        assert_eq!(lines("02 00\n"), (b"7\n".to_vec(), 2));
+        assert_eq!(lines("01 0000000000000000 41\n"), (b"0\n".to_vec(), 2));
+        assert_eq!(lines("02 3\n"), (b"13\n".to_vec(), 2));
+        assert_eq!(lines("03\n"), (b"0 2\n".to_vec(), 0));
+        // T·C·(N+K) is 8: a fail would raise this count above it.
+        let full = Record {
+            waiting: 7,
+            ..Record::default()
+        };
+        let played = play_line(&four(), &full, &mut image, b"02 03\n", 120);
+        assert_eq!((&played.answer[..], played.record), (&b"3\n"[..], full));
+    }
+
     /// An event of which one argument in some is outside.
     fn drawn(draws: &mut Draws, y: &Layout) -> Event {
         let capacity = y.derived().capacity;

@@ -1,21 +1,25 @@
-//! Document 01's checked examples, starred or not, and the order that order 5
-//! of document 02 gives to files, as checks of this library.
+//! Document 01's checked examples, starred or not, and of document 02 the order
+//! that order 5 gives to files and the count of order 6, as checks of this
+//! library.
 
 use crate::catalogue::{listing, lookup, refusal, Listed, Record as Entry, Wide};
+use crate::draws::Draws;
 use crate::field::multiply;
 use crate::group::{coefficient, encode};
 use crate::hexline::hex_line;
 use crate::layout::{layout, range_refusal, Layout};
 use crate::permutation::{advance, permutation, start};
-use crate::place::{file_byte, image_byte, place};
-use crate::pool::{fail, homes, read, repair, unit_targets, write, Record};
+use crate::place::{file_byte, image_byte, place, unit_targets};
+use crate::pool::{fail, homes, read, repair, write, Record};
+use crate::pool_count::{audit, missing_units, most_missing, panel, Counts, WRONG_COUNT};
 use crate::pool_text::{read_text, write_text};
+use crate::replay::{play_line, Event};
 
 /// One example: the words of the documents and whether this library agrees.
 pub type Check = (&'static str, fn() -> bool);
 
 /// All of them.
-pub const CHECKS: [Check; 23] = [
+pub const CHECKS: [Check; 27] = [
     ("N=4 K=2 P=20: W=8, B=40, L=2, C=5", wide_layout),
     ("N=1 K=0 P=1: L=1, C=1", least_layout),
     ("N=16 K=3: P=22 accepted, P=21 refused 1", tight_layout),
@@ -65,6 +69,22 @@ pub const CHECKS: [Check; 23] = [
     (
         "order 5: the next file number is a pair, (0,0) if none remain",
         next_pairs,
+    ),
+    (
+        "order 6: failing target 3 raises the count by 2, repair sets it to 0",
+        count_of_failing_three,
+    ),
+    (
+        "order 6: a count above T·C·(N+K), or raised above it, is 3",
+        count_at_the_bound,
+    ),
+    (
+        "order 6: an audit answers 14 if the stored count differs, the panel shows it",
+        audit_of_each_count,
+    ),
+    (
+        "order 6: from a true count every call keeps it true",
+        counts_stay_true,
     ),
 ];
 
@@ -270,6 +290,78 @@ fn next_pairs() -> bool {
         && listed(pair(0, u64::MAX), 0) == (0, 0, true, pair(0, u64::MAX))
         && listed(pair(1, 1), 1) == (0, 1, false, pair(0, 0))
         && listed(pair(u64::MAX, 1), 0) == (0, 0, false, pair(0, 0))
+}
+
+fn count_of_failing_three() -> bool {
+    let shape = example();
+    let mut image = [0; 48];
+    let one = fail(&shape, &Record::default(), &image, 3).1;
+    let mended = repair(&shape, &one, &mut image).1;
+    (one.waiting, mended.waiting) == (2, 0)
+}
+
+/// A record of no failures with this count.
+fn counted(waiting: u64) -> Record {
+    Record {
+        waiting,
+        ..Record::default()
+    }
+}
+
+fn count_at_the_bound() -> bool {
+    let (shape, image) = (example(), [0; 48]);
+    let failed = |waiting| fail(&shape, &counted(waiting), &image, 3);
+    let shown = |waiting| panel(&shape, &counted(waiting), &image).0;
+    most_missing(&shape) == 8
+        && (failed(6).0, failed(6).1.waiting) == (0, 8)
+        && (failed(7), failed(8)) == ((3, counted(7)), (3, counted(8)))
+        && (shown(8), shown(9), shown(u64::MAX)) == (0, 3, 3)
+}
+
+fn audit_of_each_count() -> bool {
+    let (shape, image) = (example(), [0; 48]);
+    let one = fail(&shape, &Record::default(), &image, 3).1;
+    (0..=8).all(|waiting| {
+        let record = Record { waiting, ..one };
+        let shown = Counts {
+            waiting,
+            failed: 1,
+            repaired: 0,
+        };
+        let wanted = if waiting == 2 { 0 } else { WRONG_COUNT };
+        audit(&shape, &record, &image) == wanted && panel(&shape, &record, &image) == (0, shown)
+    })
+}
+
+/// Runs of the calls that hand a record back, from no failures on: after each,
+/// refused or not, the count is that of the missing units.
+fn counts_stay_true() -> bool {
+    let mut draws = Draws::new(66);
+    (0..40).all(|_| {
+        let (n, k) = (1 + draws.draw(4), draws.draw(4));
+        let p = n + 2 * k + draws.draw(4);
+        let shape = layout(n, k, p, 1 + draws.draw(3), 1 + draws.draw(3), draws.high());
+        let mut image = vec![0; shape.derived().image as usize];
+        let mut record = Record::default();
+        (0..20).all(|_| {
+            record = after_a_call(&mut draws, &shape, &record, &mut image);
+            record.waiting == missing_units(&shape, &record)
+        })
+    })
+}
+
+fn after_a_call(draws: &mut Draws, shape: &Layout, record: &Record, image: &mut [u8]) -> Record {
+    let target = draws.draw(shape.p + 1);
+    let line = match draws.draw(6) {
+        0 => return repair(shape, record, image).1,
+        1..=3 => return fail(shape, record, image, target).1,
+        4 => Event::Fail {
+            target: target as u8,
+        },
+        _ => Event::Repair,
+    };
+    let room = 24 + 2 * image.len();
+    play_line(shape, record, image, line.line().as_bytes(), room).record
 }
 
 #[cfg(test)]

@@ -114,6 +114,14 @@ pub fn repair(y: splicebell_layout, r: splicebell_record, image: &mut [u8]) -> s
     unsafe { splicebell_repair(y, r, image.as_mut_ptr(), image.len()) }
 }
 
+pub fn panel(y: splicebell_layout, r: splicebell_record, image: &[u8]) -> splicebell_counts {
+    unsafe { splicebell_panel(y, r, image.as_ptr(), image.len()) }
+}
+
+pub fn audit(y: splicebell_layout, r: splicebell_record, image: &[u8]) -> u64 {
+    unsafe { splicebell_audit(y, r, image.as_ptr(), image.len()) }
+}
+
 pub fn prepare(
     y: splicebell_layout,
     r: splicebell_record,

@@ -31,5 +31,5 @@ mod refusal;
 
 pub use catalogue::{Catalogue, Entry, Key, Page};
 pub use layout::{Cursor, Layout, Mapped, Numbers, Place, Traced, Unit, Walk};
-pub use pool::{Pool, Range, Record};
+pub use pool::{Panel, Pool, Range, Record};
 pub use refusal::{ListRefusal, Refusal, Result, TextRefusal};

@@ -3,9 +3,11 @@ use crate::layout::Layout;
 use crate::raw;
 use crate::refusal::{answered, list_answered, ListRefusal, Result};
 
-/// The failure record: which targets have failed, in order, and how many of them have been repaired.
+/// The failure record: which targets have failed, in order, how many of them have been repaired, and how many
+/// units are missing.
 ///
-/// Any values may stand here, for instance those that a caller kept over a restart.
+/// Any values may stand here, for instance those that a caller kept over a restart. The default one is empty:
+/// nothing has failed.
 #[derive(Clone, Copy, Debug, Default, PartialEq, Eq, Hash)]
 pub struct Record {
     /// The failed targets; those from `k` on are never read.
@@ -14,18 +16,32 @@ pub struct Record {
     pub k: u64,
     /// How many of them, from the first on, have been repaired.
     pub q: u64,
+    /// How many units are missing. From a true count every call keeps it true; [`Pool::audit`] tells whether it
+    /// is.
+    pub waiting: u64,
 }
 
 impl Record {
     fn to_raw(self) -> raw::splicebell_record {
-        let Record { failed, k, q } = self;
-        raw::splicebell_record { failed, k, q }
+        let Record { failed, k, q, waiting } = self;
+        raw::splicebell_record { failed, k, q, waiting }
     }
 
     fn from_raw(record: raw::splicebell_record) -> Record {
-        let raw::splicebell_record { failed, k, q } = record;
-        Record { failed, k, q }
+        let raw::splicebell_record { failed, k, q, waiting } = record;
+        Record { failed, k, q, waiting }
     }
+}
+
+/// What the service panel shows.
+#[derive(Clone, Copy, Debug, PartialEq, Eq, Hash)]
+pub struct Panel {
+    /// How many units await repair, by the record's count.
+    pub waiting: u64,
+    /// How many targets have failed.
+    pub failed: u64,
+    /// How many of them have been repaired.
+    pub repaired: u64,
 }
 
 /// One range of a list of writes. Any numbers may stand here.
@@ -166,7 +182,7 @@ impl<'a> Pool<'a> {
         self.write_list(&ranges, &parts.concat())
     }
 
-    /// Enters a failed target into the record.
+    /// Enters a failed target into the record, and raises its count by the units that go missing with it.
     pub fn fail(&mut self, target: u64) -> Result<()> {
         let (y, r) = self.to_raw();
         let answer = calls::fail(y, r, self.image, target);
@@ -174,12 +190,54 @@ impl<'a> Pool<'a> {
         answered(answer.refusal, ())
     }
 
-    /// Stores every missing content at its new home; answers how many there were.
+    /// Stores every missing content at its new home; answers how many there were, counted afresh. The record's
+    /// count becomes 0.
     pub fn repair(&mut self) -> Result<u64> {
         let (y, r) = self.to_raw();
         let answer = calls::repair(y, r, self.image);
         self.record = Record::from_raw(answer.record);
         answered(answer.refusal, answer.count)
+    }
+
+    /// What the service panel shows, as the record has it: nothing is counted, so it takes as long on any pool.
+    ///
+    /// ```
+    /// use splicebell::{Layout, Panel, Pool};
+    ///
+    /// let mut image = [0; 48];
+    /// let mut pool = Pool::new(Layout { n: 1, k: 1, p: 4, u: 4, t: 1, cookie: 0 }, &mut image);
+    /// pool.fail(3)?;
+    /// assert_eq!(pool.panel()?, Panel { waiting: 2, failed: 1, repaired: 0 });
+    /// pool.repair()?;
+    /// assert_eq!(pool.panel()?, Panel { waiting: 0, failed: 1, repaired: 1 });
+    /// # Ok::<(), splicebell::Refusal>(())
+    /// ```
+    pub fn panel(&self) -> Result<Panel> {
+        let (y, r) = self.to_raw();
+        let raw::splicebell_counts { refusal, waiting, failed, repaired } =
+            calls::panel(y, r, self.image);
+        answered(refusal, Panel { waiting, failed, repaired })
+    }
+
+    /// Counts the missing units afresh: [`Refusal::WrongCount`](crate::Refusal::WrongCount) where the record has
+    /// another count.
+    ///
+    /// ```
+    /// use splicebell::{Layout, Pool, Record, Refusal};
+    ///
+    /// let layout = Layout { n: 1, k: 1, p: 4, u: 4, t: 1, cookie: 0 };
+    /// let mut image = [0; 48];
+    /// let mut pool = Pool::new(layout, &mut image);
+    /// pool.fail(3)?;
+    /// pool.audit()?;
+    /// let one_too_few = Record { waiting: 1, ..pool.record() };
+    /// let pool = Pool::with_record(layout, one_too_few, &mut image);
+    /// assert_eq!(pool.audit(), Err(Refusal::WrongCount));
+    /// # Ok::<(), Refusal>(())
+    /// ```
+    pub fn audit(&self) -> Result<()> {
+        let (y, r) = self.to_raw();
+        answered(calls::audit(y, r, self.image), ())
     }
 
     /// The U bytes of one content: a part of the image, or of the scratch of U bytes where it is missing and

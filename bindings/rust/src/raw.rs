@@ -21,6 +21,7 @@ pub struct splicebell_record {
     pub failed: [u64; 3],
     pub k: u64,
     pub q: u64,
+    pub waiting: u64,
 }
 
 #[repr(C)]
@@ -138,6 +139,15 @@ pub struct splicebell_repaired {
     pub refusal: u64,
     pub count: u64,
     pub record: splicebell_record,
+}
+
+#[repr(C)]
+#[derive(Clone, Copy, Debug, Default, PartialEq, Eq)]
+pub struct splicebell_counts {
+    pub refusal: u64,
+    pub waiting: u64,
+    pub failed: u64,
+    pub repaired: u64,
 }
 
 #[repr(C)]
@@ -275,6 +285,18 @@ extern "C" {
         image: *mut u8,
         image_len: usize,
     ) -> splicebell_repaired;
+    pub fn splicebell_panel(
+        y: splicebell_layout,
+        r: splicebell_record,
+        image: *const u8,
+        image_len: usize,
+    ) -> splicebell_counts;
+    pub fn splicebell_audit(
+        y: splicebell_layout,
+        r: splicebell_record,
+        image: *const u8,
+        image_len: usize,
+    ) -> u64;
     pub fn splicebell_prepare(
         y: splicebell_layout,
         r: splicebell_record,

@@ -18,7 +18,7 @@ pub enum Refusal {
     BadLayout = 1,
     /// 2: image length wrong.
     BadImageLength = 2,
-    /// 3: failure record bad.
+    /// 3: failure record bad, or its count of missing units above T·C·(N+K), or a fail would raise it above.
     BadRecord = 3,
     /// 4: tile, group, unit, frame, target, offset or range outside, or more than 64 ranges in a list. A
     /// [`ListRefusal`] tells the range.
@@ -42,6 +42,8 @@ pub enum Refusal {
     WrongLine = 12,
     /// 13: a malformed line of a trace, or a pool too large for a replay.
     BadTrace = 13,
+    /// 14: the record's count of missing units is not the true one.
+    WrongCount = 14,
 }
 
 /// What a call answers: its value, or why it was refused.
@@ -49,7 +51,7 @@ pub type Result<T> = std::result::Result<T, Refusal>;
 
 impl Refusal {
     /// Every refusal, in the order of its number.
-    pub const ALL: [Refusal; 13] = [
+    pub const ALL: [Refusal; 14] = [
         Refusal::BadLayout,
         Refusal::BadImageLength,
         Refusal::BadRecord,
@@ -63,14 +65,15 @@ impl Refusal {
         Refusal::NoSuchRecord,
         Refusal::WrongLine,
         Refusal::BadTrace,
+        Refusal::WrongCount,
     ];
 
-    /// The number of this refusal, 1 to 13.
+    /// The number of this refusal, 1 to 14.
     pub fn number(self) -> u64 {
         self as u64
     }
 
-    /// The refusal of a number; none for 0, which means accepted, and for numbers above 13.
+    /// The refusal of a number; none for 0, which means accepted, and for numbers above 14.
     pub fn from_number(number: u64) -> Option<Refusal> {
         Refusal::ALL.into_iter().find(|refusal| refusal.number() == number)
     }
@@ -80,7 +83,8 @@ impl Refusal {
             Refusal::BadLayout => "a layout number outside the bounds",
             Refusal::BadImageLength => "image length wrong",
             Refusal::BadRecord => {
-                "failure record bad: k > K, q > k, an entry among the first k that is ≥ P or occurs twice"
+                "failure record bad: k > K, q > k, an entry among the first k that is ≥ P or occurs twice; \
+                 a count above T·C·(N+K), or one that a fail would raise above it"
             }
             Refusal::Outside => "tile, group, unit, frame, target, offset or range outside",
             Refusal::BadBufferLength => {
@@ -98,6 +102,7 @@ impl Refusal {
             Refusal::BadTrace => {
                 "a malformed line of a trace, or a pool too large for a replay"
             }
+            Refusal::WrongCount => "the record's count of missing units is not the true one",
         }
     }
 }
@@ -225,8 +230,8 @@ pub(crate) fn answered<T>(number: u64, value: T) -> Result<T> {
 #[cfg(test)]
 mod tests {
     #[test]
-    #[should_panic(expected = "the library answered 14")]
+    #[should_panic(expected = "the library answered 15")]
     fn a_number_outside_the_table_stops_the_program() {
-        let _ = super::answered(14, ());
+        let _ = super::answered(15, ());
     }
 }

@@ -1,8 +1,8 @@
 //! The safe interface on a small pool and a small catalogue.
 use splicebell::raw::splicebell_wide;
 use splicebell::{
-    Catalogue, Cursor, Entry, Key, Layout, ListRefusal, Mapped, Page, Pool, Range, Record, Refusal,
-    TextRefusal, Traced, Unit,
+    Catalogue, Cursor, Entry, Key, Layout, ListRefusal, Mapped, Page, Panel, Pool, Range, Record,
+    Refusal, TextRefusal, Traced, Unit,
 };
 
 /// Two data, two parity and two spare units a group over seven targets.
@@ -40,7 +40,7 @@ fn a_pool_outlives_two_drives() -> Result<(), Refusal> {
     assert_eq!(seen, file);
     assert_eq!(pool.fail(0), Err(Refusal::Dud));
     assert!(pool.repair()? > 0);
-    assert_eq!(pool.record(), Record { failed: [5, 1, 0], k: 2, q: 2 });
+    assert_eq!(pool.record(), Record { failed: [5, 1, 0], k: 2, q: 2, waiting: 0 });
     assert_eq!(pool.repair()?, 0);
     pool.read(0, &mut seen)?;
     assert_eq!(seen, file);
@@ -126,7 +126,8 @@ fn every_image_byte_leads_back() -> Result<(), Refusal> {
 fn refused_calls_leave_zeros_in_outputs_and_the_rest_alone() {
     let mut image = blank_image();
     image.fill(1);
-    let mut pool = Pool::with_record(LAYOUT, Record { failed: [4; 3], k: 2, q: 1 }, &mut image);
+    let twice = Record { failed: [4; 3], k: 2, q: 1, waiting: 5 };
+    let mut pool = Pool::with_record(LAYOUT, twice, &mut image);
     let mut out = [8; 5];
     assert_eq!(pool.read(0, &mut out), Err(Refusal::BadRecord));
     assert_eq!(out, [0; 5]);
@@ -139,16 +140,161 @@ fn refused_calls_leave_zeros_in_outputs_and_the_rest_alone() {
     out.fill(8);
     assert_eq!(pool.look(0, 0, &mut out), Err(Refusal::BadRecord));
     assert_eq!(out, [0; 5]);
-    let record = pool.record();
     assert_eq!(pool.write(0, &[2]), Err(Refusal::BadRecord));
     assert_eq!(pool.repair(), Err(Refusal::BadRecord));
     assert_eq!(pool.fail(6), Err(Refusal::BadRecord));
-    assert_eq!(pool.record(), record);
+    assert_eq!(pool.record(), twice);
     assert!(image.iter().all(|byte| *byte == 1));
     let mut group = [8; 11];
     assert_eq!(LAYOUT.encode(&mut group), Err(Refusal::BadBufferLength));
     assert_eq!(LAYOUT.rebuild(&[4], &mut group), Err(Refusal::Outside));
     assert_eq!(group, [8; 11]);
+}
+
+/// T·C·(N+K): no more units can be missing.
+const ALL_CONTENTS: u64 = 2 * 7 * 4;
+
+/// Nothing has failed; a count of 0 would be true.
+fn waiting(waiting: u64) -> Record {
+    Record { waiting, ..Record::default() }
+}
+
+/// The contents whose own place is on a target, found one by one.
+fn contents_on(target: u64) -> Result<u64, Refusal> {
+    let mut found = 0;
+    for group in 0..LAYOUT.measure()?.groups {
+        for content in 0..LAYOUT.n + LAYOUT.k {
+            found += u64::from(LAYOUT.place(group, content)?.target == target);
+        }
+    }
+    Ok(found)
+}
+
+#[test]
+fn the_panel_shows_what_the_record_counts() -> Result<(), Refusal> {
+    let mut image = blank_image();
+    let mut pool = Pool::new(LAYOUT, &mut image);
+    let shown = |waiting, failed, repaired| Ok(Panel { waiting, failed, repaired });
+    assert_eq!(pool.panel(), shown(0, 0, 0));
+    pool.fail(5)?;
+    let on_5 = contents_on(5)?;
+    assert!(on_5 > 0);
+    assert_eq!(pool.panel(), shown(on_5, 1, 0));
+    assert_eq!(pool.fail(5), Err(Refusal::AlreadyFailed));
+    pool.fail(1)?;
+    let both = on_5 + contents_on(1)?;
+    assert_eq!(pool.panel(), shown(both, 2, 0));
+    assert_eq!(pool.fail(0), Err(Refusal::Dud));
+    pool.write(4, b"again")?;
+    assert_eq!(pool.panel(), shown(both, 2, 0));
+    pool.audit()?;
+    assert_eq!(pool.repair()?, both);
+    assert_eq!(pool.panel(), shown(0, 2, 2));
+    pool.audit()
+}
+
+/// What stood on drive 5 lives on spares: some of them on drive 1, which failed next.
+fn failed_after_a_repair(image: &mut [u8]) -> Result<Pool<'_>, Refusal> {
+    let mut pool = Pool::new(LAYOUT, image);
+    pool.fail(5)?;
+    pool.repair()?;
+    pool.fail(1)?;
+    Ok(pool)
+}
+
+#[test]
+fn a_later_failure_counts_what_was_moved_there() -> Result<(), Refusal> {
+    let mut image = blank_image();
+    let mut pool = failed_after_a_repair(&mut image)?;
+    let missing = pool.record().waiting;
+    assert!(missing > contents_on(1)?);
+    pool.audit()?;
+    assert_eq!(pool.panel(), Ok(Panel { waiting: missing, failed: 2, repaired: 1 }));
+    assert_eq!(pool.repair()?, missing);
+    pool.audit()
+}
+
+/// docs/ABI.md tells how: the targets that are not repaired fail again.
+#[test]
+fn a_record_kept_without_a_count_gets_one() -> Result<(), Refusal> {
+    let mut image = blank_image();
+    let kept = failed_after_a_repair(&mut image)?.record();
+    let repaired = Record { k: kept.q, waiting: 0, ..kept };
+    let mut pool = Pool::with_record(LAYOUT, repaired, &mut image);
+    for target in &kept.failed[kept.q as usize..kept.k as usize] {
+        pool.fail(*target)?;
+    }
+    assert_eq!(pool.record(), kept);
+    pool.audit()
+}
+
+#[test]
+fn a_false_count_changes_no_other_answer() -> Result<(), Refusal> {
+    let (image, record) = with_dead_drives()?;
+    for count in [0, record.waiting - 1, record.waiting + 1, ALL_CONTENTS] {
+        let (mut image, mut same_image) = (image.clone(), image.clone());
+        let mut truly = Pool::with_record(LAYOUT, record, &mut image);
+        let recounted = Record { waiting: count, ..record };
+        let mut falsely = Pool::with_record(LAYOUT, recounted, &mut same_image);
+        assert_eq!(falsely.panel()?, Panel { waiting: count, ..truly.panel()? });
+        assert_eq!(falsely.audit(), Err(Refusal::WrongCount));
+        assert_eq!(falsely.write(4, b"again"), truly.write(4, b"again"));
+        let (mut shown, mut same) = ([0; 20], [0; 20]);
+        assert_eq!(falsely.read(1, &mut shown), truly.read(1, &mut same));
+        assert_eq!(shown, same);
+        assert_eq!(falsely.record().waiting, count);
+        assert_eq!(falsely.repair(), truly.repair());
+        assert_eq!(falsely.record(), truly.record());
+        assert_eq!(falsely.image(), truly.image());
+        falsely.audit()?;
+    }
+    Ok(())
+}
+
+#[test]
+fn a_count_above_all_contents_is_a_bad_record() {
+    for count in [ALL_CONTENTS + 1, u64::MAX] {
+        let mut image = blank_image();
+        image.fill(1);
+        let mut pool = Pool::with_record(LAYOUT, waiting(count), &mut image);
+        let mut out = [8; 3];
+        assert_eq!(pool.read(0, &mut out), Err(Refusal::BadRecord));
+        assert_eq!(out, [0; 3]);
+        out.fill(8);
+        assert_eq!(pool.look(0, 0, &mut out), Err(Refusal::BadRecord));
+        assert_eq!(out, [0; 3]);
+        assert_eq!(pool.write(0, &[2]), Err(Refusal::BadRecord));
+        let listed = pool.write_pieces(&[(0, &[2])]);
+        assert_eq!(listed.map_err(Refusal::from), Err(Refusal::BadRecord));
+        assert_eq!(pool.fail(7), Err(Refusal::BadRecord));
+        assert_eq!(pool.repair(), Err(Refusal::BadRecord));
+        assert_eq!(pool.panel(), Err(Refusal::BadRecord));
+        assert_eq!(pool.audit(), Err(Refusal::BadRecord));
+        assert_eq!(pool.record(), waiting(count));
+        assert!(image.iter().all(|byte| *byte == 1));
+    }
+}
+
+/// Such a fail is refused with 3 only where it has no other fault.
+#[test]
+fn a_fail_raises_no_count_above_all_contents() -> Result<(), Refusal> {
+    let mut image = blank_image();
+    let most = ALL_CONTENTS - contents_on(5)?;
+    let mut pool = Pool::with_record(LAYOUT, waiting(most), &mut image);
+    pool.fail(5)?;
+    assert_eq!(pool.panel()?.waiting, ALL_CONTENTS);
+    let full = pool.record();
+    assert_eq!(pool.fail(1), Err(Refusal::BadRecord));
+    assert_eq!(pool.fail(7), Err(Refusal::Outside));
+    assert_eq!(pool.fail(5), Err(Refusal::AlreadyFailed));
+    assert_eq!(pool.record(), full);
+    let mut pool = Pool::with_record(LAYOUT, waiting(most + 1), &mut image);
+    assert_eq!(pool.fail(5), Err(Refusal::BadRecord));
+    assert_eq!(pool.record(), waiting(most + 1));
+    let both = Record { failed: [5, 1, 0], k: 2, ..full };
+    let mut pool = Pool::with_record(LAYOUT, both, &mut image);
+    assert_eq!(pool.fail(0), Err(Refusal::Dud));
+    Ok(())
 }
 
 /// A pool with a dead drive and any bytes on it, as text.
@@ -328,7 +474,7 @@ fn a_replayed_day_leaves_what_its_calls_leave() -> Result<(), Refusal> {
 fn a_line_that_is_not_played_changes_nothing() {
     let mut image = blank_image();
     image.fill(1);
-    let record = Record { failed: [5, 1, 9], k: 1, q: 0 };
+    let record = Record { failed: [5, 1, 9], k: 1, q: 0, waiting: 3 };
     let mut pool = Pool::with_record(LAYOUT, record, &mut image);
     let mut answer = vec![8; pool.answer_length()];
     let longest = "01 0000000000000000 ".len() + 2 * 4140;
@@ -363,6 +509,7 @@ fn a_bad_pool_is_an_answer_and_no_refusal() -> Result<(), Refusal> {
     assert_eq!(played(Layout { p: 65, ..LAYOUT }, unfailed, 0)?, b"1\n");
     assert_eq!(played(LAYOUT, unfailed, length - 1)?, b"2\n");
     assert_eq!(played(LAYOUT, unfailed, length)?, b"3\n");
+    assert_eq!(played(LAYOUT, waiting(ALL_CONTENTS + 1), length)?, b"3\n");
     Ok(())
 }
 
@@ -520,6 +667,7 @@ fn a_thread_of_64_kib_is_enough() {
             pool.replay_line(line.as_bytes(), &mut answer)?;
             assert_eq!(answer[0], b'0');
         }
+        pool.audit()?;
         pool.repair()?;
         pool.read(1, &mut file)
     };

@@ -17,6 +17,7 @@ use layout::Step;
 use layout::Traced;
 use numbers::Layout;
 use place::Unit;
+use pool_count::Counts;
 use pool_fail::Failed;
 use pool_list::ListWritten;
 use pool_look::Shown;
@@ -33,7 +34,7 @@ ghost use Rattle.layout.specs.Offsets.{mappedOf, tracedOf};
 ghost use Rattle.layout.specs.Walk.{stepOf};
 ghost use Rattle.group.specs.Encode.{Encodes};
 ghost use Rattle.group.specs.Rebuild.{Rebuilding};
-ghost use Rattle.pool.specs.Calls.{Fails, Reads, Writes, Repairs, Prepares};
+ghost use Rattle.pool.specs.Calls.{Fails, Reads, Writes, Repairs, Prepares, Panels, Audits};
 ghost use Rattle.pool_list.specs.Ranges.{WritesList};
 ghost use Rattle.entries.specs.Promise.{Lookup, Insert, Delete, Listing};
 ghost use Rattle.hexline.specs.HexLine.{HexLine};
@@ -204,6 +205,20 @@ pub extern "C" fn splicebell_repair(y: Layout, r: Record, image: &mut [u8]) -> R
     ensures { λ x. ⌜ Repairs y r (now (image .entry)) (x .refusal) (x .count) (x .rec) (now (image .exit)) ⌝ }
 {
     pool_repair::repair(y, r, image)
+}
+
+#[no_mangle]
+pub extern "C" fn splicebell_panel(y: Layout, r: Record, image: &[u8]) -> Counts
+    ensures { λ x. ⌜ Panels y r (now (image .entry)) (x .refusal) (x .waiting) (x .failed) (x .repaired) ⌝ }
+{
+    pool_count::panel(y, r, image)
+}
+
+#[no_mangle]
+pub extern "C" fn splicebell_audit(y: Layout, r: Record, image: &[u8]) -> u64
+    ensures { λ n. ⌜ Audits y r (now (image .entry)) n ⌝ }
+{
+    pool_count::audit(y, r, image)
 }
 
 #[no_mangle]

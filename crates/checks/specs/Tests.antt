@@ -6,25 +6,21 @@ use Prim.Native.Nat.{ℕ, _-_, _≤_, _<_}
 use lib.Dec.{eqb, leb}
 use borrow.Author.Tests.{eq-eqb, ne-eqb, lt-ltb, le-ltb}
 use Rattle.lists.specs.Pick.{pick, both}
-use Rattle.lists.specs.Refusal.{_orElse_, refusalBy, orElse-left, orElse-right, refusal-append, step-passes}
+use Rattle.lists.specs.Refusal.{_orElse_, refusalBy, orElse-left, orElse-right, step-passes}
 use Rattle.numbers.specs.declared.Layout.{Layout}
 use Rattle.numbers.specs.Layouts.{Valid, contents, allGroups, capacity, imageLength}
 use Rattle.numbers.specs.Refused.{validb, valid-true}
 use Rattle.homes.specs.declared.Record.{Record}
 use Rattle.homes.specs.Records.{failed, recordRefusal}
-use Rattle.pool.specs.Refusals.{poolTests, rangeTests, failTests, lookTests, repairRefusal}
+use Rattle.pool.specs.Refusals.{poolTests, rangeTests, targetTests, lookTests, repairRefusal}
+use Rattle.pool.specs.Asked.{pool-first}
 
 module _ (y : Layout) (R : Record) (len : ℕ) where
-  -- every call's table begins with these
-  pub first-tests : (rest : List (Bool × ℕ)) → refusalBy (poolTests y R len rest) ≡ repairRefusal y R len orElse refusalBy rest
-  unfolding repairRefusal
-  first-tests rest = refusal-append (poolTests y R len []) rest
-
   pub refused-first : (rest : List (Bool × ℕ)) {n : ℕ} → n ≡ repairRefusal y R len → (n ≡ 0 → ⊥) → n ≡ refusalBy (poolTests y R len rest)
-  refused-first rest e f = e ∙ sym (first-tests rest ∙ orElse-left _ _ (λ (z : repairRefusal y R len ≡ 0). f (e ∙ z)))
+  refused-first rest e f = e ∙ sym (pool-first y R len rest ∙ orElse-left _ _ (λ (z : repairRefusal y R len ≡ 0). f (e ∙ z)))
 
   pub passed-first : (rest : List (Bool × ℕ)) {n : ℕ} → n ≡ repairRefusal y R len → n ≡ 0 → refusalBy (poolTests y R len rest) ≡ refusalBy rest
-  passed-first rest e z = first-tests rest ∙ orElse-right _ _ (sym e ∙ z)
+  passed-first rest e z = pool-first y R len rest ∙ orElse-right _ _ (sym e ∙ z)
 
   -- the tests that every call makes, where the layout is within its bounds
   module _ (v : Valid y) where
@@ -57,21 +53,21 @@ range-by y offset size = by (leb offset (capacity y)) (leb size (capacity y - of
 -- ---- a target that is to fail
 
 module _ (y : Layout) (R : Record) (target : ℕ) where
-  pub target-outside : y .p ≤ target → 4 ≡ refusalBy (failTests y R target)
+  pub target-outside : y .p ≤ target → 4 ≡ refusalBy (targetTests y R target)
   unfolding refusalBy _orElse_
   target-outside h = sym (simp (le-ltb target (y .p) h))
 
   module _ (inside : target < y .p) where
-    pub target-again : failed R target ≡ true → 6 ≡ refusalBy (failTests y R target)
+    pub target-again : failed R target ≡ true → 6 ≡ refusalBy (targetTests y R target)
     unfolding refusalBy _orElse_
     target-again t = sym (simp (lt-ltb target (y .p) inside, t))
 
     module _ (new : failed R target ≡ false) where
-      pub target-dud : R .k ≡ y .k → 7 ≡ refusalBy (failTests y R target)
+      pub target-dud : R .k ≡ y .k → 7 ≡ refusalBy (targetTests y R target)
       unfolding refusalBy _orElse_
       target-dud e = sym (simp (lt-ltb target (y .p) inside, new, eq-eqb (R .k) (y .k) e))
 
-      pub target-fails : (R .k ≡ y .k → ⊥) → 0 ≡ refusalBy (failTests y R target)
+      pub target-fails : (R .k ≡ y .k → ⊥) → 0 ≡ refusalBy (targetTests y R target)
       unfolding refusalBy _orElse_
       target-fails f = sym (simp (lt-ltb target (y .p) inside, new, ne-eqb (R .k) (y .k) f))
 

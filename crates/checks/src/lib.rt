@@ -1,21 +1,26 @@
 // The tests that the pool's calls make, in the order of document 01's table. Inner: the calls
-// themselves are `pool_read`, `pool_write`, `pool_list`, `pool_fail`, `pool_repair` and `pool_look`.
+// themselves are `pool_read`, `pool_write`, `pool_list`, `pool_fail`, `pool_count`, `pool_repair`
+// and `pool_look`.
 use homes::Record;
 use numbers::Layout;
+use numbers::Numbers;
 ghost use mathlib.Core.Path.{_≡_};
-ghost use Rattle.numbers.specs.Layouts.{Valid, imageLength};
-ghost use Rattle.pool.specs.Refusals.{repairRefusal, rangeRefusal, failRefusal, lookRefusal};
+ghost use Rattle.numbers.specs.Layouts.{Valid};
+ghost use Rattle.numbers.specs.Answers.{Numbered};
+ghost use Rattle.pool.specs.Refusals.{repairRefusal, rangeRefusal, otherwise, lookRefusal};
 ghost use Rattle.checks.specs.Tests.{insideOf};
 
-// Image length and record, where the layout is good and asks for an image of `image` bytes.
-fn stored_refusal(y: Layout, r: Record, len: usize, image: u64) -> u64
-    requires { ⌜ Valid y × (image ≡ imageLength y) ⌝ }
+// Image length and record, where the layout is good and these are its numbers.
+fn stored_refusal(y: Layout, r: Record, len: usize, numbers: Numbers) -> u64
+    requires { ⌜ Valid y × Numbered y numbers ⌝ }
     ensures { λ n. ⌜ n ≡ repairRefusal y r len ⌝ }
 {
+    let image = numbers.image;
     if len as u64 != image {
         return 2;
     }
-    homes::record_refusal(y, r)
+    let contents = numbers::all_contents(y, numbers.groups);
+    homes::record_refusal(y, r, contents)
 }
 
 // Layout, image length and record: all that a repair tests, and what every call tests first.
@@ -27,7 +32,7 @@ pub fn pool_refusal(y: Layout, r: Record, len: usize) -> u64
         return refusal;
     }
     let numbers = numbers::numbers_of(y);
-    stored_refusal(y, r, len, numbers.image)
+    stored_refusal(y, r, len, numbers)
 }
 
 // Whether a range of `size` bytes of a file of `capacity` bytes from `offset` on lies inside.
@@ -49,7 +54,7 @@ pub fn range_refusal(y: Layout, r: Record, len: usize, offset: u64, size: usize)
         return bad;
     }
     let numbers = numbers::numbers_of(y);
-    let refusal = stored_refusal(y, r, len, numbers.image);
+    let refusal = stored_refusal(y, r, len, numbers);
     if refusal != 0 {
         return refusal;
     }
@@ -60,9 +65,9 @@ pub fn range_refusal(y: Layout, r: Record, len: usize, offset: u64, size: usize)
     0
 }
 
-// A target that is to fail.
+// A target that is to fail, but for the test that the count stays within T·C·(N+K).
 pub fn fail_refusal(y: Layout, r: Record, len: usize, target: u64) -> u64
-    ensures { λ n. ⌜ n ≡ failRefusal y r len target ⌝ }
+    ensures { λ n. ⌜ n ≡ otherwise y r len target ⌝ }
 {
     let refusal = pool_refusal(y, r, len);
     if refusal != 0 {

@@ -66,13 +66,13 @@ module _ (y : Layout) (v : Valid y) (R : Record) (g : ℕ) where
       )
 
 -- "entries from k on are never read": records with the same k, q and first k entries have the same homes and missing contents
-module _ (y : Layout) (l l′ : List ℕ) (k q : ℕ)
-    (same : (i : ℕ) → i < k → entry (record { failed = l; k = k; q = q }) i ≡ entry (record { failed = l′; k = k; q = q }) i) where
+module _ (y : Layout) (l l′ : List ℕ) (k q n : ℕ)
+    (same : (i : ℕ) → i < k → entry (record { failed = l; k = k; q = q; waiting = n }) i ≡ entry (record { failed = l′; k = k; q = q; waiting = n }) i) where
   abbrev R : Record
-  R = record { failed = l; k = k; q = q }
+  R = record { failed = l; k = k; q = q; waiting = n }
 
   abbrev R′ : Record
-  R′ = record { failed = l′; k = k; q = q }
+  R′ = record { failed = l′; k = k; q = q; waiting = n }
 
   pub home-unread : (j g c : ℕ) → j ≤ k → home y R j g c ≡ home y R′ j g c
   unfolding home

@@ -41,9 +41,9 @@ good-true y R r =
     (λ i b. both-hold (ltb (entry R i) (y .p)) _ (lt-ltb (entry R i) (y .p) (r .below i b)) (ap not (r .once i b)))))
 
 -- "entries from k on are never read"
-module _ (y : Layout) (l l′ : List ℕ) (k q : ℕ)
-    (same : (i : ℕ) → i < k → entry (record { failed = l; k = k; q = q }) i ≡ entry (record { failed = l′; k = k; q = q }) i) where
-  pub good-unread : recordGood y (record { failed = l; k = k; q = q }) ≡ recordGood y (record { failed = l′; k = k; q = q })
+module _ (y : Layout) (l l′ : List ℕ) (k q n : ℕ)
+    (same : (i : ℕ) → i < k → entry (record { failed = l; k = k; q = q; waiting = n }) i ≡ entry (record { failed = l′; k = k; q = q; waiting = n }) i) where
+  pub good-unread : recordGood y (record { failed = l; k = k; q = q; waiting = n }) ≡ recordGood y (record { failed = l′; k = k; q = q; waiting = n })
   unfolding recordGood
   good-unread =
       ap (λ (b : Bool). both (leb k (y .k)) (both (leb q k) b))

@@ -9,6 +9,7 @@ use Rattle.lists.specs.Search.{all}
 use Rattle.lists.specs.Tabulate.{at}
 use Rattle.lists.specs.Refusal.{refusalBy}
 use Rattle.numbers.specs.declared.Layout.{Layout}
+use Rattle.numbers.specs.Layouts.{allContents}
 use Rattle.homes.specs.declared.Record.{Record}
 use Rattle.homes.specs.Listed.{listed}
 
@@ -27,8 +28,12 @@ entryGood y R i = both (ltb (entry R i) (y .p)) (not (listed (entry R) i (entry 
 unfoldable pub recordGood : Layout → Record → Bool
 recordGood y R = both (leb (R .k) (y .k)) (both (leb (R .q) (R .k)) (all (entryGood y R) (R .k)))
 
+-- by the list alone, and with "A count above T·C·(N+K) .. is 3"
+unfoldable pub listRefusal : Layout → Record → ℕ
+listRefusal y R = refusalBy ((recordGood y R, 3) ∷ [])
+
 unfoldable pub recordRefusal : Layout → Record → ℕ
-recordRefusal y R = refusalBy ((recordGood y R, 3) ∷ [])
+recordRefusal y R = refusalBy ((recordGood y R, 3) ∷ (leb (R .waiting) (allContents y), 3) ∷ [])
 
 -- the same as facts
 pub record Good (y : Layout) (R : Record) : Type 0 where

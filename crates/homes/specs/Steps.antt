@@ -10,13 +10,14 @@ use lib.Dec.{eqb, leb, ltb}
 use Rattle.lists.specs.Pick.{pick, pick-true, pick-false, both-true, both-hold, not-both-ways, clash}
 use Rattle.lists.specs.Search.{any, all, lowest, all-at}
 use Rattle.lists.specs.Tabulate.{at}
-use Rattle.lists.specs.Refusal.{_orElse_, refusalBy}
+use Rattle.lists.specs.Refusal.{_orElse_, refusalBy, orElse-left, orElse-right, refusal-append}
 use Rattle.numbers.specs.declared.Layout.{Layout}
+use Rattle.numbers.specs.Layouts.{allContents}
 use Rattle.homes.specs.declared.Record.{Record}
 use Rattle.homes.specs.Listed.{listed}
 use Rattle.homes.specs.Homes.{free, move, homes}
 use Rattle.homes.specs.HomesLaws.{homes-apart}
-use Rattle.homes.specs.Records.{entry, entryGood, recordGood, recordRefusal}
+use Rattle.homes.specs.Records.{entry, entryGood, recordGood, listRefusal, recordRefusal}
 use Rattle.homes.specs.Standing.{Units, Standing, HomesAre}
 use Rattle.homes.specs.StandingLaws.{move-cong}
 
@@ -33,14 +34,14 @@ module _ (y : Layout) (R : Record) where
   pub entry-fine : (i : ℕ) → entry R i < y .p → listed (entry R) i (entry R i) ≡ false → entryGood y R i ≡ true
   entry-fine i h t = both-hold (ltb (entry R i) (y .p)) _ (lt-ltb (entry R i) (y .p) h) (ap not t)
 
-  pub refused-by : recordGood y R ≡ false → 3 ≡ recordRefusal y R
-  unfolding recordRefusal refusalBy _orElse_
+  pub refused-by : recordGood y R ≡ false → 3 ≡ listRefusal y R
+  unfolding listRefusal refusalBy _orElse_
   refused-by e = sym (ap (λ (b : Bool). refusalBy ((b, 3) ∷ [])) e)
 
-  pub too-many : y .k < R .k → 3 ≡ recordRefusal y R
+  pub too-many : y .k < R .k → 3 ≡ listRefusal y R
   too-many h = refused-by (unfold recordGood in pick-false (leb (R .k) (y .k)) _ false (lt-leb (R .k) (y .k) h))
 
-  pub too-mended : R .k ≤ y .k → R .k < R .q → 3 ≡ recordRefusal y R
+  pub too-mended : R .k ≤ y .k → R .k < R .q → 3 ≡ listRefusal y R
   too-mended f h =
       refused-by
       (unfold recordGood in
@@ -51,9 +52,28 @@ module _ (y : Layout) (R : Record) where
   unfolding recordGood
   by-entries f h = pick-true (leb (R .k) (y .k)) _ false (le-leb (R .k) (y .k) f) ∙ pick-true (leb (R .q) (R .k)) _ false (le-leb (R .q) (R .k) h)
 
-  pub accepted-by : recordGood y R ≡ true → 0 ≡ recordRefusal y R
-  unfolding recordRefusal refusalBy _orElse_
+  pub accepted-by : recordGood y R ≡ true → 0 ≡ listRefusal y R
+  unfolding listRefusal refusalBy _orElse_
   accepted-by e = sym (ap (λ (b : Bool). refusalBy ((b, 3) ∷ [])) e)
+
+-- ---- the count's test
+
+module _ (y : Layout) (R : Record) where
+  list-first : recordRefusal y R ≡ listRefusal y R orElse refusalBy ((leb (R .waiting) (allContents y), 3) ∷ [])
+  unfolding recordRefusal listRefusal
+  list-first = refusal-append ((recordGood y R, 3) ∷ []) ((leb (R .waiting) (allContents y), 3) ∷ [])
+
+  pub refused-by-list : {n : ℕ} → n ≡ listRefusal y R → (n ≡ 0 → ⊥) → n ≡ recordRefusal y R
+  refused-by-list e f = e ∙ sym (list-first ∙ orElse-left _ _ (λ (z : listRefusal y R ≡ 0). f (e ∙ z)))
+
+  module _ {n : ℕ} (e : n ≡ listRefusal y R) (z : n ≡ 0) where
+    pub count-above : allContents y < R .waiting → 3 ≡ recordRefusal y R
+    unfolding refusalBy _orElse_
+    count-above h = sym (list-first ∙ orElse-right _ _ (sym e ∙ z) ∙ simp (lt-leb (R .waiting) (allContents y) h))
+
+    pub count-within : R .waiting ≤ allContents y → 0 ≡ recordRefusal y R
+    unfolding refusalBy _orElse_
+    count-within h = sym (list-first ∙ orElse-right _ _ (sym e ∙ z) ∙ simp (le-leb (R .waiting) (allContents y) h))
 
 pub one-bad : (f : ℕ → Bool) (n i : ℕ) → i < n → f i ≡ false → false ≡ all f n
 one-bad f n i h e = sym (not-both-ways (all f n) (λ (t : all f n ≡ true). clash (f i) (all-at f n t i h) e))

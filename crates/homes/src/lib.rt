@@ -5,19 +5,21 @@ ghost use Prim.Native.Nat.{ℕ, _+_, _<_, _≤_};
 ghost use Rattle.lists.specs.Pick.{pick};
 ghost use Rattle.lists.specs.Search.{all, lowest};
 ghost use Rattle.lists.specs.Tabulate.{at};
-ghost use Rattle.numbers.specs.Layouts.{Valid};
+ghost use Rattle.numbers.specs.Layouts.{Valid, allContents};
 ghost use Rattle.homes.specs.Listed.{listed};
 ghost use Rattle.homes.specs.Homes.{free, move};
-ghost use Rattle.homes.specs.Records.{entryGood, recordRefusal};
+ghost use Rattle.homes.specs.Records.{entryGood, listRefusal, recordRefusal};
 ghost use Rattle.homes.specs.Standing.{Units, HomesAre, MissingAre, Standing};
 
 // The targets that have failed, in order: the first k entries, of which the first q are repaired.
-// Entries from k on are never read. Any values may stand in it.
+// Entries from k on are never read. `waiting` counts the units that wait for repair. Any values may
+// stand in it.
 #[repr(C)]
 pub struct Record {
     pub failed: [u64; 3],
     pub k: u64,
     pub q: u64,
+    pub waiting: u64,
 }
 
 // Whether t is among the first j entries.
@@ -56,10 +58,10 @@ fn entries_good(y: Layout, r: Record) -> bool
     true
 }
 
-// 3 where the record is bad, else 0. The counts are tested before any entry is read.
-pub fn record_refusal(y: Layout, r: Record) -> u64
+// 3 where the list is bad, else 0. Its counts are tested before any entry is read.
+fn list_refusal(y: Layout, r: Record) -> u64
     requires { ⌜ Valid y ⌝ }
-    ensures { λ n. ⌜ n ≡ recordRefusal y r ⌝ }
+    ensures { λ n. ⌜ n ≡ listRefusal y r ⌝ }
 {
     if y.k < r.k {
         return 3;
@@ -70,8 +72,20 @@ pub fn record_refusal(y: Layout, r: Record) -> u64
     if entries_good(y, r) { 0 } else { 3 }
 }
 
+// 3 where the record is bad, else 0: the list, then the count, which may be as high as the contents of all groups.
+pub fn record_refusal(y: Layout, r: Record, contents: u64) -> u64
+    requires { ⌜ Valid y × (contents ≡ allContents y) ⌝ }
+    ensures { λ n. ⌜ n ≡ recordRefusal y r ⌝ }
+{
+    let refusal = list_refusal(y, r);
+    if refusal != 0 {
+        return refusal;
+    }
+    if contents < r.waiting { 3 } else { 0 }
+}
+
 // Whether unit u is the home of one of m contents.
-fn is_home(homes: [usize; 19], m: usize, u: usize) -> bool
+pub fn is_home(homes: [usize; 19], m: usize, u: usize) -> bool
     requires { ⌜ m ≤ 19 ⌝ }
     ensures { λ r. ⌜ r ≡ listed (at homes) m u ⌝ }
 {

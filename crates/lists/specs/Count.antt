@@ -113,7 +113,24 @@ count-more f g j (suc n) h =
     (λ (e : n ≡ j). omega (arith, count-weaker f g n (λ i b. h i (omega arith) (λ (q : i ≡ j). omega arith)), bit-le (f n)))
     (λ (ne : n ≡ j → ⊥). omega (arith, count-more f g j n (λ i b. h i (omega arith)), bit-mono (f n) (g n) (h n (omega arith) ne)))
 
+-- ---- one test where two others hold, which never hold together
+
+pub count-two : (f g h : ℕ → Bool) (n : ℕ) → ((k : ℕ) → k < n → bit (f k) ≡ bit (g k) + bit (h k)) → count f n ≡ count g n + count h n
+unfolding count
+count-two f g h zero e = refl
+count-two f g h (suc n) e = omega (arith, count-two f g h n (λ k b. e k (omega arith)), e n (omega arith))
+
+pub sum-two : (s a b : ℕ → ℕ) (n : ℕ) → ((k : ℕ) → k < n → s k ≡ a k + b k) → sum s n ≡ sum a n + sum b n
+unfolding sum
+sum-two s a b zero e = refl
+sum-two s a b (suc n) e = omega (arith, sum-two s a b n (λ k l. e k (omega arith)), e n (omega arith))
+
 -- ---- none, one, all but
+
+pub sum-none : (s : ℕ → ℕ) (n : ℕ) → ((k : ℕ) → k < n → s k ≡ 0) → sum s n ≡ 0
+unfolding sum
+sum-none s zero e = refl
+sum-none s (suc n) e = omega (arith, sum-none s n (λ k l. e k (omega arith)), e n (omega arith))
 
 pub count-none : (f : ℕ → Bool) (n : ℕ) → ((k : ℕ) → k < n → f k ≡ false) → count f n ≡ 0
 unfolding count

@@ -1,6 +1,7 @@
 pub mod Pick
 pub mod Tabulate
 pub mod Count
+pub mod Matched
 pub mod Search
 pub mod First
 pub mod Those

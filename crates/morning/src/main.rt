@@ -1,13 +1,16 @@
 // A kiosk's morning, in words and hex lines: photographs are stored on a row of drives, a drive
 // dies in the rush, kiosks go on writing, the claims desk goes on reading, and the row is repaired.
+// The service panel shows how many units wait for that, and the count is audited.
 use homes::Record;
 use row_trial::get;
+use row_trial::inspect;
 use row_trial::lose;
 use row_trial::mend;
 use row_trial::no_failures;
 use row_trial::put;
 use row_trial::row;
 use row_trial::wipe_drive_2;
+use row_trial::with_count;
 use trial::answer_line;
 use trial::decimal;
 use trial::text;
@@ -68,29 +71,50 @@ fn before_the_rush(r: Record, image: &mut [u8]) {
     store(r, image, 24, &second);
     text(b"The drives before the rush:\n");
     drives(image);
+    inspect(r, image);
+}
+
+// The same drive again, and one more than the row can lose.
+fn lose_more(r: Record, image: &[u8]) -> Record {
+    let again = lose(r, image, 2);
+    let dud = lose(again, image, 4);
+    inspect(dud, image);
+    dud
 }
 
 fn in_the_rush(r: Record, image: &mut [u8]) -> Record {
     let failed = lose(r, image, 2);
     wipe_drive_2(image);
+    inspect(failed, image);
     let mut out = [0u8; 24];
     show(failed, image, 0, &mut out);
     let mut third = [0u8; 30];
     photograph(&mut third, 13);
     store(failed, image, 40, &third);
-    let again = lose(failed, image, 2);
-    lose(again, image, 4)
+    lose_more(failed, image)
+}
+
+// The record comes back from its keeper with another count.
+fn misread(r: Record, image: &[u8], waiting: u64) {
+    text(b"The record is read as one with ");
+    decimal(waiting);
+    text(b" missing:\n");
+    inspect(with_count(r, waiting), image);
 }
 
 fn after_the_rush(r: Record, image: &mut [u8]) {
     let mended = mend(r, image);
+    inspect(mended, image);
     text(b"The drives after the repair:\n");
     drives(image);
     let mut whole = [0u8; 70];
     show(mended, image, 0, &mut whole);
     let mut beyond = [42u8; 12];
     show(mended, image, 70, &mut beyond);
-    mend(mended, image);
+    let again = mend(mended, image);
+    misread(again, image, 1);
+    misread(again, image, 15);
+    misread(again, image, 16);
 }
 
 fn main() {

@@ -48,3 +48,7 @@ imageLength y = y .p * rows y * y .t * y .u
 -- "Data and parity are the contents": N+K of the W units of a group
 abbrev pub contents : Layout → ℕ
 contents y = y .n + y .k
+
+-- "T·C·(N+K)": the contents of all groups
+abbrev pub allContents : Layout → ℕ
+allContents y = allGroups y * contents y

@@ -1,7 +1,8 @@
 // The numbers of a layout.
 ghost use mathlib.Core.Path.{_≡_};
 ghost use Rattle.numbers.specs.Gcd.{gcd as gcdOf};
-ghost use Rattle.numbers.specs.Layouts.{Valid};
+ghost use Prim.Native.Nat.{_≤_};
+ghost use Rattle.numbers.specs.Layouts.{Valid, allGroups, allContents};
 ghost use Rattle.numbers.specs.Refused.{layoutRefusal};
 ghost use Rattle.numbers.specs.Answers.{Shaped, Numbered};
 
@@ -115,4 +116,12 @@ pub fn numbers_of(y: Layout) -> Numbers
         capacity: t * c * n * u,
         image: p * l * t * u,
     }
+}
+
+// T·C·(N+K), the contents of all groups.
+pub fn all_contents(y: Layout, groups: u64) -> u64
+    requires { ⌜ Valid y × (groups ≡ allGroups y) ⌝ }
+    ensures { λ r. ⌜ (r ≡ allContents y) × (r ≤ 79691776) ⌝ }
+{
+    groups * (y.n + y.k)
 }

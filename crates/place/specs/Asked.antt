@@ -42,27 +42,37 @@ cell-fits y s g u a =
       row-frame = div-le-self (s .w * (g % s .c) + u) (y .p);
     }
 
--- the same on the way to a unit
-pub record HoldingFits (y : Layout) (s : Shape) (from : List ℕ) (r t : ℕ) : Type 0 where
+-- the same on the way from a column of a row of a tile to a unit
+pub record RowFits (y : Layout) (s : Shape) (tile row column : ℕ) : Type 0 where
   pub width-some : 0 < s .w
-  pub row : y .p * (r % s .l) ≤ 1408
-  pub column : at from t < y .p
-  pub group : s .c * (r / s .l) ≤ 4194304
-  pub row-group : (y .p * (r % s .l) + at from t) / s .w ≤ y .p * (r % s .l) + at from t
+  pub before-row : y .p * row ≤ 1408
+  pub before-tile : s .c * tile ≤ 4194304
+  pub row-group : (y .p * row + column) / s .w ≤ y .p * row + column
 
-pub holding-fits : (y : Layout) (s : Shape) (from : List ℕ) (r t : ℕ) → Holding y s from r t → HoldingFits y s from r t
-holding-fits y s from r t a =
-    let v = a .valid in
-    let z = a .shape in
-    let row : r % s .l ≤ 22 = omega (arith, mod-lt r (z .l-some)) in
-    let tile : r / s .l ≤ 65536 = omega (arith, div-below r (s .l) (y .t) (z .l-some) (subst (λ (l : ℕ). r < l * y .t) (sym (z .l-is)) (a .frame))) in
+pub row-fits : (y : Layout) (s : Shape) (tile row column : ℕ) → Valid y × Shaped y s × (tile < y .t) × (row < s .l) × (column < y .p) → RowFits y s tile row column
+row-fits y s tile row column a =
+    let v = a .0 in
+    let z = a .1 in
+    let rows : row ≤ 22 = omega arith in
+    let tiles : tile ≤ 65536 = omega arith in
     record {
       width-some = omega arith;
-      row = omega (arith, mul-le-mul (v .few-targets) row);
-      column = subst (λ (l : List ℕ). at l t < y .p) (sym (a .tile)) (tiles y v (r / s .l) .from t (a .target));
-      group = omega (arith, mul-le-mul (z .c-few) tile);
-      row-group = div-le-self (y .p * (r % s .l) + at from t) (s .w);
+      before-row = omega (arith, mul-le-mul (v .few-targets) rows);
+      before-tile = omega (arith, mul-le-mul (z .c-few) tiles);
+      row-group = div-le-self (y .p * row + column) (s .w);
     }
+
+-- a frame's tile and row, and a target's column in it
+pub holding-row : (y : Layout) (s : Shape) (from : List ℕ) (r t : ℕ) → Holding y s from r t
+    → Valid y × Shaped y s × (r / s .l < y .t) × (r % s .l < s .l) × (at from t < y .p)
+holding-row y s from r t a =
+    let z = a .shape in (
+      a .valid,
+      z,
+      div-below r (s .l) (y .t) (z .l-some) (subst (λ (l : ℕ). r < l * y .t) (sym (z .l-is)) (a .frame)),
+      mod-lt r (z .l-some),
+      subst (λ (l : List ℕ). at l t < y .p) (sym (a .tile)) (tiles y (a .valid) (r / s .l) .from t (a .target)),
+    )
 
 -- the same on the way to a byte of the image
 pub record SpotFits (y : Layout) (l : ℕ) (a : Place) : Type 0 where

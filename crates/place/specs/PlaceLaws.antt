@@ -1,7 +1,7 @@
 -- The laws of units and places, for a layout.
 use mathlib.Core.Path.{_≡_, ap, _∙_}
 use mathlib.Core.List.{List}
-use Prim.Native.Nat.{ℕ, _+_, _*_, _/_, _≤_, _<_}
+use Prim.Native.Nat.{ℕ, _+_, _*_, _/_, _%_, _≤_, _<_}
 use native.Mathlib.Nat.{le-refl}
 use native.Mathlib.Omega.{arith}
 use Rattle.lists.specs.Tabulate.{at}
@@ -11,14 +11,14 @@ use Rattle.numbers.specs.declared.Shape.{Shape}
 use Rattle.numbers.specs.Answers.{Shaped}
 use Rattle.numbers.specs.Layouts.{Valid, width, rows, groups, frames, allGroups}
 use Rattle.numbers.specs.Shapes.{width-groups-rows, rows-pos, groups-pos}
-use Rattle.tile.specs.Permutation.{permutationOf}
+use Rattle.tile.specs.Permutation.{permutationOf, inverseOf}
 use Rattle.tile.specs.Laws.{permutation-inverse}
 use Rattle.place.specs.declared.Cell.{Cell}
 use Rattle.place.specs.declared.Place.{Place}
-use Rattle.place.specs.Units.{Tiled, targetOf}
+use Rattle.place.specs.Units.{Tiled, targetOf, groupAt, unitAt}
 use Rattle.place.specs.UnitLaws as U
 use Rattle.place.specs.Load as L
-use Rattle.place.specs.Places.{widthsOf, targetsOf, columnsOf, cellOf, placeOf, unitOf}
+use Rattle.place.specs.Places.{widthsOf, targetsOf, columnsOf, cellOf, unitInRow, placeOf, unitOf}
 
 module _ (y : Layout) (v : Valid y) where
   pub tiled : Tiled (widthsOf y)
@@ -57,6 +57,14 @@ module _ (y : Layout) (v : Valid y) where
       (λ i. record { frame = h .0 i; target = h .1 i })
       ∙ (λ i. record { frame = e i .frame; target = at (t i) (e i .column) })
       ∙ ap (λ (c : ℕ). record { frame = cellOf y g u .frame; target = targetsOf y (g / c) (cellOf y g u .column) }) (z .c-is)
+
+  -- and the unit in a row of the tile whose inverse is in hand, at the target's column there, is the unit in that frame of the target
+  pub unit-in-row : (s : Shape) → Shaped y s → (from : List ℕ) (r t : ℕ) → from ≡ inverseOf (permutationOf (y .p) (y .cookie) (r / s .l))
+      → unitInRow y (r / s .l) (r % s .l) (at from t) ≡ unitOf y r t
+  unfolding unitInRow unitOf groupAt unitAt
+  unit-in-row s z from r t e =
+      ap (λ (f : List ℕ). unitInRow y (r / s .l) (r % s .l) (at f t)) e
+      ∙ ap (λ (l : ℕ). unitInRow y (r / l) (r % l) (columnsOf y (r / l) t)) (z .l-is)
 
   pub place-in : (g u : ℕ) → u < width y → g < allGroups y → (placeOf y g u .frame < frames y) × (placeOf y g u .target < y .p)
   unfolding placeOf

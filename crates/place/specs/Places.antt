@@ -1,5 +1,5 @@
 -- "Places" of a layout: each tile's permutation is the generator's.
-use Prim.Native.Nat.{ℕ}
+use Prim.Native.Nat.{ℕ, _+_, _*_, _/_, _%_}
 use Rattle.lists.specs.Tabulate.{at}
 use Rattle.numbers.specs.declared.Layout.{Layout}
 use Rattle.numbers.specs.Layouts.{width, rows, groups}
@@ -22,6 +22,10 @@ columnsOf y tile target = at (inverseOf (permutationOf (y .p) (y .cookie) tile))
 -- the cell of unit u of group g
 unfoldable pub cellOf : Layout → ℕ → ℕ → Cell
 cellOf y g u = record { frame = frameOf (widthsOf y) g u; column = columnOf (widthsOf y) g u }
+
+-- the unit in a column of a row of a tile
+unfoldable pub unitInRow : Layout → ℕ → ℕ → ℕ → Unit
+unitInRow y tile row column = record { group = groups y * tile + (y .p * row + column) / width y; unit = (y .p * row + column) % width y }
 
 -- the place of unit u of group g, and the unit in frame r of target t
 unfoldable pub placeOf : Layout → ℕ → ℕ → Place

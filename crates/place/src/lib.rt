@@ -6,7 +6,7 @@ ghost use Prim.Native.Nat.{ℕ, _+_, _<_};
 ghost use Rattle.lists.specs.Tabulate.{at};
 ghost use Rattle.numbers.specs.Layouts.{Valid, width, frames, allGroups, imageLength};
 ghost use Rattle.numbers.specs.Answers.{Shaped};
-ghost use Rattle.place.specs.Places.{cellOf, placeOf, unitOf};
+ghost use Rattle.place.specs.Places.{cellOf, placeOf, unitInRow, unitOf};
 ghost use Rattle.place.specs.Bytes.{spotOf};
 ghost use Rattle.place.specs.Asked.{Holding};
 
@@ -79,21 +79,28 @@ pub fn place_at(to: &[u8; 64], a: Cell) -> Place
     }
 }
 
+// The unit in a column of a row of a tile.
+pub fn unit_at(y: Layout, s: Shape, tile: u64, row: u64, column: u64) -> Unit
+    requires { ⌜ Valid y × Shaped y s × (tile < y .t) × (row < s .l) × (column < y .p) ⌝ }
+    ensures { λ q. ⌜ q ≡ unitInRow y tile row column ⌝ }
+{
+    let w = s.w;
+    let c = s.c;
+    let x = y.p * row + column;
+    Unit {
+        group: c * tile + x / w,
+        unit: x % w,
+    }
+}
+
 // The unit in frame r of target t, by the inverse of the permutation of the frame's tile.
 pub fn unit_in(y: Layout, s: Shape, from: &[u8; 64], r: u64, t: u64) -> Unit
     requires { ⌜ Holding y s (now from) r t ⌝ }
     ensures { λ q. ⌜ q ≡ unitOf y r t ⌝ }
 {
-    let p = y.p;
-    let w = s.w;
     let l = s.l;
-    let c = s.c;
     let target = t as usize;
-    let x = p * (r % l) + from[target] as u64;
-    Unit {
-        group: c * (r / l) + x / w,
-        unit: x % w,
-    }
+    unit_at(y, s, r / l, r % l, from[target] as u64)
 }
 
 // The place of unit u of group g, working out the permutation too.

@@ -160,7 +160,7 @@ module _ (y : Layout) (R : Record) (img img′ : List ℕ) (a : Agree y R img im
 
   -- ---- fail: less is present afterwards
 
-  grown-agree : (t : ℕ) → Sound y R (length img) → Agree y (grown R t) img img′
+  grown-agree : (t : ℕ) → Sound y R (length img) → Agree y (grown y R t) img img′
   unfolding stored
   grown-agree t s =
       let le = s .good .mended in
@@ -174,7 +174,7 @@ module _ (y : Layout) (R : Record) (img img′ : List ℕ) (a : Agree y R img im
   pub fail-agree : (t : ℕ) → Agree y (failRecord y R (length img) t) img img′
   unfolding failRecord
   fail-agree t =
-      grant-either (failRefusal y R (length img) t) (grown R t) R (λ (S : Record). Agree y S img img′)
+      grant-either (failRefusal y R (length img) t) (grown y R t) R (λ (S : Record). Agree y S img img′)
       (λ z. grown-agree t (fail-asked y R (length img) t z .sound)) (λ z. a)
 
   -- ---- a look

@@ -11,6 +11,7 @@ use Rattle.pool.specs.Writing.{writeImage}
 use Rattle.pool.specs.Failing.{failRecord}
 use Rattle.pool.specs.Repairing.{repairImage, repairRecord, repairCount}
 use Rattle.pool.specs.Looking.{lookScratch, lookShown}
+use Rattle.pool.specs.Auditing.{auditRefusal, panelShows}
 
 pub record Reads (y : Layout) (R : Record) (img : List ℕ) (offset size n : ℕ) (out : List ℕ) : Type 0 where
   pub answer : n ≡ rangeRefusal y R (length img) offset size
@@ -37,3 +38,12 @@ pub record Prepares (y : Layout) (R : Record) (img : List ℕ) (room group conte
 pub record Shows (y : Layout) (R : Record) (img scratch : List ℕ) (group content n : ℕ) (shown : List ℕ) : Type 0 where
   pub answer : n ≡ lookRefusal y R (length img) (length scratch) group content
   pub bytes : shown ≡ lookShown y R img scratch group content
+
+pub record Panels (y : Layout) (R : Record) (img : List ℕ) (n waiting failed repaired : ℕ) : Type 0 where
+  pub answer : n ≡ repairRefusal y R (length img)
+  pub waits : waiting ≡ panelShows y R (length img) (R .waiting)
+  pub fails : failed ≡ panelShows y R (length img) (R .k)
+  pub mends : repaired ≡ panelShows y R (length img) (R .q)
+
+pub record Audits (y : Layout) (R : Record) (img : List ℕ) (n : ℕ) : Type 0 where
+  pub answer : n ≡ auditRefusal y R (length img)

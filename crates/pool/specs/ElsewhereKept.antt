@@ -33,19 +33,19 @@ use Rattle.pool.specs.Blind.{also, write-blind, mended-agree}
 use Rattle.pool.specs.Elsewhere.{isHome, unusedSpare, unseen, home-seen, AgreeElsewhere, agree-of, elsewhere-of}
 
 -- what is seen under one more entry was seen before
-unseen-grown : (y : Layout) (R : Record) (t x : ℕ) → R .q ≤ R .k → unseen y (grown R t) x ≡ false → unseen y R x ≡ false
+unseen-grown : (y : Layout) (R : Record) (t x : ℕ) → R .q ≤ R .k → unseen y (grown y R t) x ≡ false → unseen y R x ≡ false
 unfolding unseen unusedSpare isHome
 unseen-grown y R t x le e =
     ⊎-elim
-    (λ (f : failed (grown R t) (targetHere y x) ≡ true). clash (pick (failed (grown R t) (targetHere y x)) true (spare (grown R t))) (pick-true _ true (spare (grown R t)) f) e)
-    (λ (f : failed (grown R t) (targetHere y x) ≡ false).
+    (λ (f : failed (grown y R t) (targetHere y x) ≡ true). clash (pick (failed (grown y R t) (targetHere y x)) true (spare (grown y R t))) (pick-true _ true (spare (grown y R t)) f) e)
+    (λ (f : failed (grown y R t) (targetHere y x) ≡ false).
     pick-false (failed R (targetHere y x)) true (spare R)
-    (sym (listed-same (entry (grown R t)) (entry R) (R .k) (targetHere y x) (entry-same y R t))
-    ∙ unlisted-sub (entry (grown R t)) (R .k) (suc (R .k)) (targetHere y x) (omega arith) f)
+    (sym (listed-same (entry (grown y R t)) (entry R) (R .k) (targetHere y x) (entry-same y R t))
+    ∙ unlisted-sub (entry (grown y R t)) (R .k) (suc (R .k)) (targetHere y x) (omega arith) f)
     ∙ ap (λ (b : Bool). both (leb (contents y) (unitHere y x .unit)) (not b))
     (any-same _ _ (contents y) (λ c b. ap (λ (u : ℕ). eqb u (unitHere y x .unit)) (sym (home-grown y R t (R .q) (unitHere y x .group) c le))))
-    ∙ sym (pick-false (failed (grown R t) (targetHere y x)) true (spare (grown R t)) f) ∙ e)
-    (either-way (failed (grown R t) (targetHere y x)))
+    ∙ sym (pick-false (failed (grown y R t) (targetHere y x)) true (spare (grown y R t)) f) ∙ e)
+    (either-way (failed (grown y R t) (targetHere y x)))
   where
     spare : Record → Bool
     spare S = both (leb (contents y) (unitHere y x .unit)) (not (any (λ c. eqb (home y S (S .q) (unitHere y x .group) c) (unitHere y x .unit)) (contents y)))
@@ -63,7 +63,7 @@ module _ (y : Layout) (R : Record) (img img′ : List ℕ) (a : AgreeElsewhere y
   pub fail-elsewhere : (t : ℕ) → AgreeElsewhere y (failRecord y R (length img) t) img img′
   unfolding failRecord
   fail-elsewhere t =
-      grant-either (failRefusal y R (length img) t) (grown R t) R (λ (S : Record). AgreeElsewhere y S img img′)
+      grant-either (failRefusal y R (length img) t) (grown y R t) R (λ (S : Record). AgreeElsewhere y S img img′)
       (λ z.
       let s = fail-asked y R (length img) t z .sound in
       record { same-length = a .same-length; elsewhere = λ x h e. a .elsewhere x h (unseen-grown y R t x (s .good .mended) e) })
@@ -86,6 +86,7 @@ module _ (y : Layout) (R : Record) (img img′ : List ℕ) (a : AgreeElsewhere y
             valid = s .valid;
             len-is = repair-length y R img ∙ s .len-is;
             good = record { few = s .good .few; mended = le-refl (R .k); below = s .good .below; once = s .good .once };
+            within = omega arith;
           }
 
 -- a write changes none of those bytes

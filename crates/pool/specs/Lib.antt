@@ -1,3 +1,4 @@
+pub mod Counting
 pub mod Contents
 pub mod Refusals
 pub mod Reading
@@ -6,10 +7,12 @@ pub mod Writing
 pub mod Failing
 pub mod Repairing
 pub mod Looking
+pub mod Auditing
 pub mod Files
 pub mod Scribbling
 pub mod Calls
 pub mod Asked
+pub mod Otherwise
 pub mod StoringLaws
 pub mod Holds
 pub mod WriteHolds
@@ -23,3 +26,6 @@ pub mod Elsewhere
 pub mod ElsewhereKept
 pub mod Cuts
 pub mod Unread
+pub mod CountLaws
+pub mod FrameCount
+pub mod TargetCounts

@@ -4,19 +4,18 @@ use mathlib.Core.Bool.{Bool}
 use mathlib.Core.List.{List}
 use Prim.Native.Nat.{ℕ}
 use lib.ListN.{length}
-use Rattle.lists.specs.Count.{count, sum}
 use Rattle.lists.specs.Refusal.{grant}
 use Rattle.numbers.specs.declared.Layout.{Layout}
-use Rattle.numbers.specs.Layouts.{allGroups, contents}
 use Rattle.homes.specs.declared.Record.{Record}
 use Rattle.homes.specs.Missing.{missing}
+use Rattle.pool.specs.Counting.{missingUnits}
 use Rattle.pool.specs.Contents.{contentByte}
 use Rattle.pool.specs.Refusals.{repairRefusal}
 use Rattle.pool.specs.Storing.{storing}
 
--- "sets q = k"
+-- "sets q = k", and the count "to 0"
 abbrev pub mended : Record → Record
-mended R = record { failed = R .failed; k = R .k; q = R .k }
+mended R = record { failed = R .failed; k = R .k; q = R .k; waiting = 0 }
 
 -- "stores every missing content": each of its U bytes
 abbrev pub mends : Layout → Record → ℕ → ℕ → ℕ → Bool
@@ -33,4 +32,4 @@ unfoldable pub repairRecord : Layout → Record → ℕ → Record
 repairRecord y R len = grant (repairRefusal y R len) (mended R) R
 
 unfoldable pub repairCount : Layout → Record → ℕ → ℕ
-repairCount y R len = grant (repairRefusal y R len) (sum (λ g. count (missing y R g) (contents y)) (allGroups y)) 0
+repairCount y R len = grant (repairRefusal y R len) (missingUnits y R) 0

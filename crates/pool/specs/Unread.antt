@@ -1,4 +1,4 @@
--- "entries from k on are never read": two records that agree on k, q and the first k entries make every call of the pool answer the same and leave the
+-- "entries from k on are never read": two records that agree on k, q, the count and the first k entries make every call of the pool answer the same and leave the
 -- same image, and the records that come back agree likewise. Past the tests a call sees of the record which contents are missing, and their homes.
 use mathlib.Core.Path.{_≡_, refl, sym, ap, _∙_, subst, fun-ext}
 use mathlib.Core.Logic.{⊎-elim}
@@ -7,16 +7,16 @@ use mathlib.Core.List.{List, [], _∷_}
 use Prim.Native.Nat.{ℕ, zero, suc, _+_, _-_, _≤_, _<_}
 use native.Mathlib.Nat.{le-refl, le-of-suc-le-suc, eq-or-lt-of-le}
 use native.Mathlib.Omega.{arith}
-use lib.Dec.{eqb, ltb}
+use lib.Dec.{eqb, leb, ltb}
 use lib.ListN.{length, take, drop}
 use lib.Seq.{getD-set-same}
-use Rattle.lists.specs.Pick.{pick, both}
+use Rattle.lists.specs.Pick.{pick, both, equal-or-not}
 use Rattle.lists.specs.Count.{count, sum}
 use Rattle.lists.specs.Search.{lowest}
 use Rattle.lists.specs.Tabulate.{at, tabulate}
-use Rattle.lists.specs.Refusal.{refusalBy, grant}
+use Rattle.lists.specs.Refusal.{unless, _orElse_, refusalBy, grant, orElse-left}
 use Rattle.numbers.specs.declared.Layout.{Layout}
-use Rattle.numbers.specs.Layouts.{allGroups, contents, imageLength}
+use Rattle.numbers.specs.Layouts.{allGroups, contents, allContents, imageLength}
 use Rattle.numbers.specs.Refused.{validb}
 use Rattle.place.specs.Bytes.{groupOf, unitIn, byteIn, offsetOf, spot, unitHere, offsetHere}
 use Rattle.parity.specs.Group.{content, rebuilt}
@@ -24,22 +24,26 @@ use Rattle.homes.specs.declared.Record.{Record}
 use Rattle.homes.specs.Listed.{listed-same}
 use Rattle.homes.specs.Records.{entry, failed, recordGood}
 use Rattle.homes.specs.RecordLaws.{good-unread}
-use Rattle.homes.specs.Missing.{home, missing}
+use Rattle.homes.specs.Missing.{targetAt, home, missing}
 use Rattle.homes.specs.MissingLaws.{home-unread, missing-unread}
+use Rattle.pool.specs.Counting.{missingUnits, onTarget}
 use Rattle.pool.specs.Contents.{stored, contentByte, fileByte}
-use Rattle.pool.specs.Refusals.{rangeTests, rangeRefusal, failRefusal, repairRefusal, lookTests, lookRefusal}
+use Rattle.pool.specs.Refusals.{poolTests, rangeTests, rangeRefusal, otherwise, raised, failRefusal, repairRefusal, lookTests, lookRefusal}
 use Rattle.pool.specs.Reading.{readOut}
 use Rattle.pool.specs.Storing.{owner, cellAfter, storing}
 use Rattle.pool.specs.Writing.{named, writes, laid, writeImage}
 use Rattle.pool.specs.Failing.{grown, failRecord}
 use Rattle.pool.specs.Repairing.{mended, repairImage, repairRecord, repairCount}
 use Rattle.pool.specs.Looking.{lookScratch, lookShown}
-use Rattle.pool.specs.Asked.{range-asked, fail-asked, repair-asked, look-asked}
+use Rattle.pool.specs.Auditing.{panelShows, auditRefusal}
+use Rattle.pool.specs.Asked.{pool-first, range-asked, otherwise-asked, fail-asked, repair-asked, look-asked}
+use Rattle.pool.specs.Otherwise.{fail-by-steps}
 use Rattle.pool.specs.FailHolds.{entry-same}
 
 pub record Alike (R R′ : Record) : Type 0 where
   pub same-k : R .k ≡ R′ .k
   pub same-q : R .q ≡ R′ .q
+  pub same-waiting : R .waiting ≡ R′ .waiting
   pub same-entries : (i : ℕ) → i < R .k → entry R i ≡ entry R′ i
 
 -- two answers of one kind: the same number, and where it is 0 the same accepted answer
@@ -50,19 +54,19 @@ grant-same (suc n) n′ a a′ b e f = ap (λ (m : ℕ). grant m a′ b) e
 module _ (y : Layout) (R R′ : Record) (alike : Alike R R′) where
   -- R′ with the k and q of R, which it has
   abbrev twin : Record
-  twin = record { failed = R′ .failed; k = R .k; q = R .q }
+  twin = record { failed = R′ .failed; k = R .k; q = R .q; waiting = R .waiting }
 
   is-twin : twin ≡ R′
-  is-twin = λ i. record { failed = R′ .failed; k = alike .same-k i; q = alike .same-q i }
+  is-twin = λ i. record { failed = R′ .failed; k = alike .same-k i; q = alike .same-q i; waiting = alike .same-waiting i }
 
   -- ---- the numbers
 
   good-same : recordGood y R ≡ recordGood y R′
-  good-same = good-unread y (R .failed) (R′ .failed) (R .k) (R .q) (alike .same-entries) ∙ ap (recordGood y) is-twin
+  good-same = good-unread y (R .failed) (R′ .failed) (R .k) (R .q) (R .waiting) (alike .same-entries) ∙ ap (recordGood y) is-twin
 
-  pub tests-same : (len : ℕ) (rest : List (Bool × ℕ))
-      → refusalBy ((validb y, 1) ∷ (eqb len (imageLength y), 2) ∷ (recordGood y R, 3) ∷ rest) ≡ refusalBy ((validb y, 1) ∷ (eqb len (imageLength y), 2) ∷ (recordGood y R′, 3) ∷ rest)
-  tests-same len rest = ap (λ (b : Bool). refusalBy ((validb y, 1) ∷ (eqb len (imageLength y), 2) ∷ (b, 3) ∷ rest)) good-same
+  pub tests-same : (len : ℕ) (rest : List (Bool × ℕ)) → refusalBy (poolTests y R len rest) ≡ refusalBy (poolTests y R′ len rest)
+  tests-same len rest =
+      λ i. refusalBy ((validb y, 1) ∷ (eqb len (imageLength y), 2) ∷ (good-same i, 3) ∷ (leb (alike .same-waiting i) (allContents y), 3) ∷ rest)
 
   pub range-unread : (len offset size : ℕ) → rangeRefusal y R len offset size ≡ rangeRefusal y R′ len offset size
   unfolding rangeRefusal
@@ -76,30 +80,22 @@ module _ (y : Layout) (R R′ : Record) (alike : Alike R R′) where
   unfolding lookRefusal
   look-unread len room group content = tests-same len (lookTests y room group content)
 
-  pub fail-number-unread : (len target : ℕ) → failRefusal y R len target ≡ failRefusal y R′ len target
-  unfolding failRefusal
-  fail-number-unread len target =
-      (λ i. refusalBy ((validb y, 1) ∷ (eqb len (imageLength y), 2) ∷ (good-same i, 3) ∷ (ltb target (y .p), 4) ∷ (not (lists i), 6) ∷ (not (eqb (alike .same-k i) (y .k)), 7) ∷ []))
-    where
-      lists : failed R target ≡ failed R′ target
-      lists = listed-same (entry R) (entry R′) (R .k) target (alike .same-entries) ∙ ap (λ (S : Record). failed S target) is-twin
-
   -- ---- what an accepted call sees: homes and missing contents are the same, and so is every content's byte
 
   module _ (le : R .q ≤ R .k) where
     pub homes-unread : home y R (R .q) ≡ home y R′ (R′ .q)
     homes-unread =
-        fun-ext (λ (g : ℕ). fun-ext (λ (c : ℕ). home-unread y (R .failed) (R′ .failed) (R .k) (R .q) (alike .same-entries) (R .q) g c le))
+        fun-ext (λ (g : ℕ). fun-ext (λ (c : ℕ). home-unread y (R .failed) (R′ .failed) (R .k) (R .q) (R .waiting) (alike .same-entries) (R .q) g c le))
         ∙ ap (λ (S : Record). home y S (S .q)) is-twin
 
     new-homes-unread : home y R (R .k) ≡ home y R′ (R′ .k)
     new-homes-unread =
-        fun-ext (λ (g : ℕ). fun-ext (λ (c : ℕ). home-unread y (R .failed) (R′ .failed) (R .k) (R .q) (alike .same-entries) (R .k) g c (le-refl (R .k))))
+        fun-ext (λ (g : ℕ). fun-ext (λ (c : ℕ). home-unread y (R .failed) (R′ .failed) (R .k) (R .q) (R .waiting) (alike .same-entries) (R .k) g c (le-refl (R .k))))
         ∙ ap (λ (S : Record). home y S (S .k)) is-twin
 
     pub lost-unread : missing y R ≡ missing y R′
     lost-unread =
-        fun-ext (λ (g : ℕ). fun-ext (λ (c : ℕ). missing-unread y (R .failed) (R′ .failed) (R .k) (R .q) (alike .same-entries) le g c)) ∙ ap (missing y) is-twin
+        fun-ext (λ (g : ℕ). fun-ext (λ (c : ℕ). missing-unread y (R .failed) (R′ .failed) (R .k) (R .q) (R .waiting) (alike .same-entries) le g c)) ∙ ap (missing y) is-twin
 
     bytes-unread : (img : List ℕ) → contentByte y R img ≡ contentByte y R′ img
     unfolding contentByte stored
@@ -114,6 +110,32 @@ module _ (y : Layout) (R R′ : Record) (alike : Alike R R′) where
       (lowest (λ c. eqb (eh i (unitHere y x .group) c) (unitHere y x .unit)) (contents y)) (at img x))
 
   -- ---- the calls
+
+  otherwise-unread : (len target : ℕ) → otherwise y R len target ≡ otherwise y R′ len target
+  unfolding otherwise
+  otherwise-unread len target =
+      (λ i. refusalBy ((validb y, 1) ∷ (eqb len (imageLength y), 2) ∷ (good-same i, 3) ∷ (leb (alike .same-waiting i) (allContents y), 3)
+      ∷ (ltb target (y .p), 4) ∷ (not (lists i), 6) ∷ (not (eqb (alike .same-k i) (y .k)), 7) ∷ []))
+    where
+      lists : failed R target ≡ failed R′ target
+      lists = listed-same (entry R) (entry R′) (R .k) target (alike .same-entries) ∙ ap (λ (S : Record). failed S target) is-twin
+
+  raised-unread : R .q ≤ R .k → (target : ℕ) → raised y R target ≡ raised y R′ target
+  unfolding onTarget
+  raised-unread le target =
+      λ i. alike .same-waiting i + sum (λ g. count (λ c. eqb (targetAt y g (homes-unread le i g c)) target) (contents y)) (allGroups y)
+
+  pub fail-number-unread : (len target : ℕ) → failRefusal y R len target ≡ failRefusal y R′ len target
+  fail-number-unread len target =
+      equal-or-not (otherwise y R len target) 0
+      (λ (z : otherwise y R len target ≡ 0).
+      let up = raised-unread (otherwise-asked y R len target z .sound .good .mended) target in
+      fail-by-steps y R len target
+      ∙ (λ i. otherwise-unread len target i orElse unless (leb (up i) (allContents y)) 3)
+      ∙ sym (fail-by-steps y R′ len target))
+      (λ (ne : otherwise y R len target ≡ 0 → ⊥).
+      fail-by-steps y R len target ∙ orElse-left _ _ ne ∙ otherwise-unread len target
+      ∙ sym (fail-by-steps y R′ len target ∙ orElse-left _ _ (λ (z : otherwise y R′ len target ≡ 0). ne (otherwise-unread len target ∙ z))))
 
   pub read-unread : (img : List ℕ) (offset size : ℕ) → readOut y R img offset size ≡ readOut y R′ img offset size
   unfolding readOut fileByte
@@ -141,10 +163,26 @@ module _ (y : Layout) (R R′ : Record) (alike : Alike R R′) where
       storing-unread (R .k) (R′ .k) (new-homes-unread le) _ _ (λ i g o c. lost-unread le i g c) _ _ (bytes-unread le img) img)
 
   pub count-unread : (len : ℕ) → repairCount y R len ≡ repairCount y R′ len
-  unfolding repairCount
+  unfolding repairCount missingUnits
   count-unread len =
       grant-same (repairRefusal y R len) (repairRefusal y R′ len) _ _ 0 (repair-number-unread len)
       (λ z. let gone = lost-unread (repair-asked y R len z .good .mended) in λ i. sum (λ g. count (gone i g) (contents y)) (allGroups y))
+
+  pub panel-unread : (len n n′ : ℕ) → n ≡ n′ → panelShows y R len n ≡ panelShows y R′ len n′
+  unfolding panelShows
+  panel-unread len n n′ e = λ i. grant (repair-number-unread len i) (e i) 0
+
+  pub audit-unread : (len : ℕ) → auditRefusal y R len ≡ auditRefusal y R′ len
+  unfolding auditRefusal missingUnits
+  audit-unread len =
+      equal-or-not (repairRefusal y R len) 0
+      (λ (z : repairRefusal y R len ≡ 0).
+      let gone = lost-unread (repair-asked y R len z .good .mended) in
+      tests-same len _
+      ∙ (λ i. refusalBy (poolTests y R′ len ((eqb (alike .same-waiting i) (sum (λ g. count (gone i g) (contents y)) (allGroups y)), 14) ∷ []))))
+      (λ (ne : repairRefusal y R len ≡ 0 → ⊥).
+      pool-first y R len _ ∙ orElse-left _ _ ne ∙ repair-number-unread len
+      ∙ sym (pool-first y R′ len _ ∙ orElse-left _ _ (λ (z : repairRefusal y R′ len ≡ 0). ne (repair-number-unread len ∙ z))))
 
   pub prepare-unread : (img : List ℕ) (room group content : ℕ) → lookScratch y R img room group content ≡ lookScratch y R′ img room group content
   unfolding lookScratch
@@ -174,16 +212,17 @@ module _ (y : Layout) (R R′ : Record) (alike : Alike R R′) where
   pub fail-unread : length (R .failed) ≡ 3 → length (R′ .failed) ≡ 3 → (len target : ℕ) → Alike (failRecord y R len target) (failRecord y R′ len target)
   unfolding failRecord
   fail-unread three three′ len target =
-      alike-after (grown R target) (grown R′ target) (failRefusal y R len target) (failRefusal y R′ len target) (fail-number-unread len target)
+      alike-after (grown y R target) (grown y R′ target) (failRefusal y R len target) (failRefusal y R′ len target) (fail-number-unread len target)
       (λ z. let a = fail-asked y R len target z in
       let room : R .k < 3 = omega (arith, a .room, a .sound .valid .few-parity) in
       record {
         same-k = ap suc (alike .same-k);
         same-q = alike .same-q;
+        same-waiting = raised-unread (a .sound .good .mended) target;
         same-entries = λ i b. ⊎-elim
             (λ (e : i ≡ R .k).
-            ap (entry (grown R target)) e ∙ getD-set-same (R .failed) (R .k) target 0 (omega (arith, room, three))
-            ∙ sym (ap (entry (grown R′ target)) (e ∙ alike .same-k) ∙ getD-set-same (R′ .failed) (R′ .k) target 0 (omega (arith, room, three′, alike .same-k))))
+            ap (entry (grown y R target)) e ∙ getD-set-same (R .failed) (R .k) target 0 (omega (arith, room, three))
+            ∙ sym (ap (entry (grown y R′ target)) (e ∙ alike .same-k) ∙ getD-set-same (R′ .failed) (R′ .k) target 0 (omega (arith, room, three′, alike .same-k))))
             (λ (l : i < R .k).
             entry-same y R target i l ∙ alike .same-entries i l ∙ sym (entry-same y R′ target i (omega (arith, l, alike .same-k))))
             (eq-or-lt-of-le (le-of-suc-le-suc b));
@@ -193,4 +232,4 @@ module _ (y : Layout) (R R′ : Record) (alike : Alike R R′) where
   unfolding repairRecord
   mended-unread len =
       alike-after (mended R) (mended R′) (repairRefusal y R len) (repairRefusal y R′ len) (repair-number-unread len)
-      (λ z. record { same-k = alike .same-k; same-q = alike .same-k; same-entries = alike .same-entries })
+      (λ z. record { same-k = alike .same-k; same-q = alike .same-k; same-waiting = refl; same-entries = alike .same-entries })

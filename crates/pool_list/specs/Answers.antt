@@ -1,7 +1,7 @@
 -- The promise of the call from its parts: how each of its returns keeps it.
 use mathlib.Core.Path.{_≡_, sym, ap, _∙_}
-use mathlib.Core.Bool.{Bool, true, false}
-use mathlib.Core.List.{List, [], _∷_}
+use mathlib.Core.Bool.{true, false}
+use mathlib.Core.List.{List}
 use Prim.Native.Nat.{ℕ, _≤_, _<_}
 use native.Mathlib.Omega.{arith}
 use lib.Dec.{eqb, leb}
@@ -13,24 +13,13 @@ use Rattle.lists.specs.Search.{all, all-true}
 use Rattle.lists.specs.First.{firstFailing, failing-lowest, all-pass}
 use Rattle.lists.specs.Refusal.{_orElse_, refusalBy}
 use Rattle.numbers.specs.declared.Layout.{Layout}
-use Rattle.numbers.specs.Layouts.{imageLength}
-use Rattle.numbers.specs.Refused.{validb}
 use Rattle.homes.specs.declared.Record.{Record}
-use Rattle.homes.specs.Records.{recordGood}
 use Rattle.pool.specs.Refusals.{repairRefusal}
-use Rattle.pool.specs.Asked.{Sound, sound-passes}
+use Rattle.pool.specs.Asked.{Sound, sound-passes, repair-number}
 use Rattle.checks.specs.Tests.{refused-first}
 use Rattle.pool_list.specs.Ranges.{rangeSize, insideAlone, listTests, listRefusal, listRange, afterRanges, listImage, WritesList}
 use Rattle.pool_list.specs.Asked.{ListAsked}
 use Rattle.pool_list.specs.Steps.{image-refused, image-accepted}
-
--- what every call tests first is refused with 1, 2 or 3
-early : (a b c : Bool) → refusalBy ((a, 1) ∷ (b, 2) ∷ (c, 3) ∷ []) ≡ 4 → ⊥
-unfolding refusalBy _orElse_
-early false b c e = omega (arith, e)
-early true false c e = omega (arith, e)
-early true true false e = omega (arith, e)
-early true true true e = omega (arith, e)
 
 module _ (y : Layout) (R : Record) (img : List ℕ) (rs : List (List ℕ)) (bytes : List ℕ) where
   abbrev number : ℕ
@@ -47,10 +36,10 @@ module _ (y : Layout) (R : Record) (img : List ℕ) (rs : List (List ℕ)) (byte
 
   -- by what every call tests first
   pub lists-refused : (n : ℕ) → n ≡ repairRefusal y R (length img) → (n ≡ 0 → ⊥) → WritesList y R img rs bytes n 0 img
-  unfolding listRefusal repairRefusal
+  unfolding listRefusal
   lists-refused n e f =
       let r = refused-first y R (length img) (listTests y rs (length bytes)) e f in
-      record { answer = r; first = no-range r (λ z. early (validb y) (eqb (length img) (imageLength y)) (recordGood y R) (sym e ∙ z)); image = kept r f }
+      record { answer = r; first = no-range r (λ z. omega (arith, z, e, repair-number y R (length img))); image = kept r f }
 
   -- then the list's own tests decide
   module _ (s : Sound y R (length img)) where

@@ -10,12 +10,11 @@ use borrow.Author.Tests.{eqb-true, leb-true}
 use Rattle.lists.specs.Pick.{pick, both-true}
 use Rattle.lists.specs.Count.{sum}
 use Rattle.lists.specs.Search.{all-at}
-use Rattle.lists.specs.Refusal.{refusal-lowest}
 use Rattle.numbers.specs.declared.Layout.{Layout}
 use Rattle.numbers.specs.Layouts.{capacity}
 use Rattle.homes.specs.declared.Record.{Record}
-use Rattle.pool.specs.Refusals.{poolTests, rangeTests, rangeRefusal}
-use Rattle.pool.specs.Asked.{Sound, sound, sound-passes}
+use Rattle.pool.specs.Refusals.{rangeTests, rangeRefusal}
+use Rattle.pool.specs.Asked.{Sound, pool-asked, sound-passes}
 use Rattle.checks.specs.Tests.{insideOf, range-by}
 use Rattle.pool_list.specs.Ranges.{rangeOffset, rangeSize, insideAlone, listTests, listRefusal}
 
@@ -53,10 +52,10 @@ module _ (y : Layout) (R : Record) (len : ℕ) (rs : List (List ℕ)) where
   pub list-asked : (room : ℕ) → listRefusal y R len rs room ≡ 0 → ListAsked room
   unfolding listRefusal
   list-asked room e =
-      let p = refusal-lowest 1 (poolTests y R len (listTests y rs room)) (omega arith) refl .none e in
-      let q = p .1 .1 .1 in
+      let p = pool-asked y R len (listTests y rs room) refl e in
+      let q = p .1 in
       record {
-        sound = sound y R len (p .0) (p .1 .0) (p .1 .1 .0);
+        sound = p .0;
         few = leb-true (length rs) 64 (q .0);
         each = all-at (insideAlone y rs) (length rs) (q .1 .0);
         exact = eqb-true room (sum (rangeSize rs) (length rs)) (q .1 .1 .0);

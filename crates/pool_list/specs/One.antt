@@ -17,9 +17,10 @@ use Rattle.numbers.specs.declared.Layout.{Layout}
 use Rattle.homes.specs.declared.Record.{Record}
 use Rattle.pool.specs.Refusals.{rangeTests, rangeRefusal, repairRefusal}
 use Rattle.pool.specs.Writing.{writeImage}
+use Rattle.pool.specs.Asked.{pool-first}
 use Rattle.pool.specs.WriteHolds.{write-refused, write-accepted}
 use Rattle.pool.specs.Changes.{written-none}
-use Rattle.checks.specs.Tests.{first-tests, range-by}
+use Rattle.checks.specs.Tests.{range-by}
 use Rattle.pool_list.specs.Ranges.{rangeOffset, rangeSize, rangeBytes, insideAlone, listTests, listRefusal, listRange, afterRanges, listImage}
 use Rattle.pool_list.specs.Asked.{inside-is, ListAsked, list-asked}
 use Rattle.pool_list.specs.Steps.{range-in-buffer, bytes-length, image-refused, image-accepted, each-accepted}
@@ -59,8 +60,8 @@ module _ (y : Layout) (R : Record) (img : List ℕ) (offset : ℕ) (bytes : List
   pub one-number : listRefusal y R (length img) alone (length bytes) ≡ rangeRefusal y R (length img) offset (length bytes)
   unfolding listRefusal rangeRefusal
   one-number =
-      first-tests y R (length img) (listTests y alone (length bytes)) ∙ ap (λ (k : ℕ). repairRefusal y R (length img) orElse k) own-number
-      ∙ sym (first-tests y R (length img) (rangeTests y offset (length bytes)))
+      pool-first y R (length img) (listTests y alone (length bytes)) ∙ ap (λ (k : ℕ). repairRefusal y R (length img) orElse k) own-number
+      ∙ sym (pool-first y R (length img) (rangeTests y offset (length bytes)))
 
   pub one-range : listRange y R (length img) alone (length bytes) ≡ pick (eqb (listRefusal y R (length img) alone (length bytes)) 4) 1 0
   one-range =

@@ -4,7 +4,6 @@ use mathlib.Core.Bool.{Bool}
 use mathlib.Core.List.{List}
 use Prim.Native.Nat.{ℕ, _*_, _≤_, _<_}
 use lib.ListN.{length, getD}
-use Rattle.lists.specs.Count.{count, sum}
 use Rattle.lists.specs.Lays.{Lays}
 use Rattle.lists.specs.Sweep.{upto}
 use Rattle.numbers.specs.declared.Layout.{Layout}
@@ -14,7 +13,7 @@ use Rattle.numbers.specs.Answers.{Shaped}
 use Rattle.place.specs.Bytes.{offsetHere}
 use Rattle.homes.specs.declared.Record.{Record}
 use Rattle.homes.specs.Records.{Good}
-use Rattle.homes.specs.Missing.{missing}
+use Rattle.pool.specs.Counting.{missingPairs}
 use Rattle.pool.specs.Contents.{contentByte}
 use Rattle.pool.specs.Repairing.{mends}
 use Rattle.pool.specs.Asked.{Sound}
@@ -48,10 +47,6 @@ module _ (y : Layout) (v : Valid y) (R : Record) (good : Good y R) where
   mendedTo img g x =
       upto (allGroups y) (contents y) (y .u) (imageLength y) (startOf y R (R .k)) (groupHere y) (contentHere y R (R .k)) (offsetHere y)
       (placed y v R (R .k) (good .few)) (mendsAt y R) (mendedAt y R) 0 img g x
-
--- "how many (group, content) pairs were missing before" in the groups below g
-abbrev pub missingPairs : Layout → Record → ℕ → ℕ
-missingPairs y R g = sum (λ h. count (missing y R h) (contents y)) g
 
 -- the groups below g are repaired, and n contents were missing in them
 pub record MendedBelow (y : Layout) (R : Record) (img₀ : List ℕ) (g n : ℕ) (img : List ℕ) : Type 0 where

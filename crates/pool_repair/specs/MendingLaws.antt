@@ -16,6 +16,7 @@ use Rattle.place.specs.Bytes.{spot, offsetHere}
 use Rattle.homes.specs.declared.Record.{Record}
 use Rattle.homes.specs.Records.{Good}
 use Rattle.homes.specs.Missing.{home, missing}
+use Rattle.pool.specs.Counting.{missingPairs, missingUnits}
 use Rattle.homes.specs.MissingLaws.{few-missing, home-stays}
 use Rattle.plan.specs.declared.Plan.{Plan}
 use Rattle.plan.specs.Plans.{missOf, Fits}
@@ -31,7 +32,7 @@ use Rattle.pool.specs.Contents.{stored}
 use Rattle.pool.specs.Refusals.{repairRefusal}
 use Rattle.pool.specs.Repairing.{mended, mendedImage, repairImage, repairRecord, repairCount}
 use Rattle.pool.specs.Storing.{storing, cellAfter}
-use Rattle.pool_repair.specs.Mending.{Mended, mendsAt, mendedAt, missingPairs, MendedBelow}
+use Rattle.pool_repair.specs.Mending.{Mended, mendsAt, mendedAt, MendedBelow}
 
 -- ---- one group
 
@@ -198,7 +199,7 @@ module _ (y : Layout) (R : Record) (img : List ℕ) (n : ℕ) (e : n ≡ repairR
 
   pub repair-accepted : n ≡ 0 → (count : ℕ) (img′ : List ℕ) → count ≡ missingPairs y R (allGroups y) → img′ ≡ mendedImage y R img
       → Repairs y R img 0 count (mended R) img′
-  unfolding repairImage repairRecord repairCount
+  unfolding repairImage repairRecord repairCount missingUnits
   repair-accepted z count img′ ec ei =
       let yes : repairRefusal y R (length img) ≡ 0 = sym e ∙ z in
       record {

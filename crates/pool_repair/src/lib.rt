@@ -10,7 +10,8 @@ ghost use Rattle.numbers.specs.Layouts.{allGroups, imageLength};
 ghost use Rattle.pool.specs.Asked.{Sound};
 ghost use Rattle.pool.specs.Calls.{Repairs};
 ghost use Rattle.pool.specs.Repairing.{mendedImage};
-ghost use Rattle.pool_repair.specs.Mending.{InHand, Mended, missingPairs};
+ghost use Rattle.pool.specs.Counting.{missingPairs};
+ghost use Rattle.pool_repair.specs.Mending.{InHand, Mended};
 
 #[repr(C)]
 pub struct Repaired {
@@ -71,7 +72,12 @@ pub fn repair(y: Layout, r: Record, image: &mut [u8]) -> Repaired
     let count = mend_groups(y, r, image);
     let failed = r.failed;
     let k = r.k;
-    let rec = Record { failed, k, q: k };
+    let rec = Record {
+        failed,
+        k,
+        q: k,
+        waiting: 0,
+    };
     Repaired {
         refusal: 0,
         count,

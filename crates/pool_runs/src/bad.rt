@@ -1,4 +1,4 @@
-// Calls that are refused for their layout, their image or their record: all six calls with each.
+// Calls that are refused for their layout, their image or their record: all eight calls with each.
 use crate::calls;
 use crate::calls::Run;
 use homes::Record;
@@ -19,6 +19,7 @@ fn record_of(a: u64, b: u64, c: u64, k: u64, q: u64) -> Record {
         failed: [a, b, c],
         k,
         q,
+        waiting: 0,
     }
 }
 
@@ -59,6 +60,7 @@ fn record_for(run: Run, kind: u64) -> Record {
             failed,
             k: rec.k,
             q: next(rec.k),
+            waiting: rec.waiting,
         };
     }
     if kind == 6 {
@@ -67,7 +69,13 @@ fn record_for(run: Run, kind: u64) -> Record {
     if kind == 7 {
         return record_of(0, 0, 0, 2, 0);
     }
-    record_of(ONES, ONES, ONES, ONES, ONES)
+    if kind == 11 {
+        return calls::counted(rec, next(calls::contents(run)));
+    }
+    if kind == 12 {
+        return calls::counted(rec, ONES);
+    }
+    calls::counted(record_of(ONES, ONES, ONES, ONES, ONES), ONES)
 }
 
 // The part of the image that a bad call is lent.
@@ -148,4 +156,5 @@ pub fn event(run: Run, image: &mut [u8], buffer: &mut [u8], kind: u64) {
     read_and_write(y, rec, part);
     fail_and_repair(y, rec, part);
     look(y, rec, part, calls::front(buffer, run.y.u));
+    calls::panel(y, rec, part);
 }

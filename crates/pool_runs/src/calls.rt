@@ -22,6 +22,23 @@ impl Run {
     }
 }
 
+// T·C·(N+K), the contents of the whole pool.
+pub fn contents(run: Run) -> u64 {
+    let a_group = std::num::wrapping_add_u64(run.y.n, run.y.k);
+    tile::wrapping_mul(run.numbers.groups, a_group)
+}
+
+// The same record with another count.
+pub fn counted(rec: Record, waiting: u64) -> Record {
+    let failed = rec.failed;
+    Record {
+        failed,
+        k: rec.k,
+        q: rec.q,
+        waiting,
+    }
+}
+
 // A run with an empty failure list.
 pub fn begin(y: Layout) -> Run {
     let measured = layout::measure(y);
@@ -30,6 +47,7 @@ pub fn begin(y: Layout) -> Run {
         failed: [0u64; 3],
         k: 0,
         q: 0,
+        waiting: 0,
     };
     Run { y, numbers, rec }
 }
@@ -82,6 +100,7 @@ pub fn record(rec: Record) {
     number(failed[2]);
     number(rec.k);
     number(rec.q);
+    number(rec.waiting);
 }
 
 pub fn pool(run: Run, image: &[u8]) {
@@ -170,7 +189,31 @@ fn show<'a>(run: Run, image: &'a [u8], group: u64, content: u64, scratch: &'a [u
     number(sum);
 }
 
+// What the panel shows, and the audit's answer.
+pub fn panel(y: Layout, rec: Record, image: &[u8]) {
+    let shown = pool_count::panel(y, rec, image);
+    text(b"panel");
+    number(shown.refusal);
+    number(shown.waiting);
+    number(shown.failed);
+    number(shown.repaired);
+    newline();
+    let audited = pool_count::audit(y, rec, image);
+    text(b"audit");
+    number(audited);
+    newline();
+}
+
 // ---- others
+
+// The run goes on with another count.
+pub fn count(run: Run, waiting: u64) -> Run {
+    text(b"count");
+    number(waiting);
+    newline();
+    let rec = run.rec;
+    run.with(counted(rec, waiting))
+}
 
 // Any bytes on the whole of one target.
 pub fn scribble(run: Run, image: &mut [u8], target: u64, seed: &mut u64) {

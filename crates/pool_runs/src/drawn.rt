@@ -1,4 +1,4 @@
-// What is drawn: layouts, starts, ranges, targets and looks.
+// What is drawn: layouts, starts, ranges, targets, looks and counts.
 use crate::calls::Run;
 use homes::Record;
 use numbers::Layout;
@@ -89,6 +89,26 @@ pub fn layout(seed: &mut u64) -> Layout {
     }
 }
 
+// One entry of the list more, by a fail, where it has fewer than k.
+fn one_more(run: Run, image: &[u8], k: u64) -> Run {
+    let y = run.y;
+    let rec = run.rec;
+    let now = rec.k;
+    if k <= now {
+        return run;
+    }
+    let answer = pool_fail::fail(y, rec, image, crate::calls::entry(rec, now));
+    let after = answer.rec;
+    run.with(after)
+}
+
+// The list grown to k entries, of which there are at most three: so the count is the true one.
+fn grown(run: Run, image: &[u8], k: u64) -> Run {
+    let one = one_more(run, image, k);
+    let two = one_more(one, image, k);
+    one_more(two, image, k)
+}
+
 // The record and the image that a run starts with.
 pub fn start(run: Run, image: &mut [u8], seed: &mut u64) -> Run {
     let kind = draw(seed, 4);
@@ -102,6 +122,7 @@ pub fn start(run: Run, image: &mut [u8], seed: &mut u64) -> Run {
             failed: [ONES, second, third],
             k: 0,
             q: 0,
+            waiting: 0,
         });
     }
     let p = run.y.p;
@@ -111,11 +132,13 @@ pub fn start(run: Run, image: &mut [u8], seed: &mut u64) -> Run {
     let second = rem(plus(x, 1), p);
     let third = rem(plus(x, 2), p);
     trial::fill(seed, image);
-    run.with(Record {
+    let repaired = run.with(Record {
         failed: [x, second, third],
-        k,
+        k: q,
         q,
-    })
+        waiting: 0,
+    });
+    grown(repaired, image, k)
 }
 
 // ---- ranges
@@ -180,6 +203,26 @@ pub fn range(run: Run, seed: &mut u64) -> Extent {
         offset: at,
         length: size,
     }
+}
+
+// ---- counts
+
+// Another count: beside the one that stands there, at the bound, or a little below that, where a fail may raise it up
+// to the bound or above.
+pub fn count(run: Run, seed: &mut u64) -> u64 {
+    let kind = draw(seed, 4);
+    let now = run.rec.waiting;
+    let most = crate::calls::contents(run);
+    if kind == 0 {
+        return minus(now, least(now, 1));
+    }
+    if kind == 1 {
+        return least(most, plus(now, 1));
+    }
+    if kind == 2 {
+        return most;
+    }
+    minus(most, below(seed, plus(run.numbers.frames, 1)))
 }
 
 // ---- targets and looks

@@ -1,4 +1,4 @@
-// The runs that document 01's examples ask for.
+// The runs that document 01's examples ask for, and one with counts of missing units about the bounds.
 use crate::calls;
 use crate::calls::Run;
 use numbers::Layout;
@@ -41,6 +41,11 @@ fn repair(run: Run, image: &mut [u8]) -> Run {
     after
 }
 
+fn panel(run: Run, image: &[u8]) {
+    calls::panel(run.y, run.rec, image);
+    calls::pool(run, image);
+}
+
 // "Offset 16 with length 0 is accepted, with length 1 refused 4."
 fn at_the_end(run: Run, image: &mut [u8], buffer: &mut [u8]) {
     read(run, image, buffer, 16, 0);
@@ -75,26 +80,35 @@ fn with_a_failure(run: Run, image: &[u8], buffer: &mut [u8]) {
 // "Failing target 3 makes two contents missing": looks before and after the repair.
 fn failing(run: Run, image: &mut [u8], buffer: &mut [u8]) {
     let failed = fail(run, image, 3);
+    panel(failed, image);
     with_a_failure(failed, image, buffer);
     let mended = repair(failed, image);
+    panel(mended, image);
     looks(mended, image, buffer);
     failing_more(mended, image, buffer);
 }
 
-fn small(space: &mut [u8], buffer: &mut [u8]) {
-    let y = Layout {
+fn four_targets() -> Run {
+    calls::begin(Layout {
         n: 1,
         k: 1,
         p: 4,
         u: 4,
         t: 1,
         cookie: 0,
-    };
-    let run = calls::begin(y);
-    let image = calls::front(space, run.numbers.image);
+    })
+}
+
+fn begin(i: u64, run: Run, image: &mut [u8]) {
     lists::clear(image);
-    calls::head(0, y);
+    calls::head(i, run.y);
     calls::pool(run, image);
+}
+
+fn small(space: &mut [u8], buffer: &mut [u8]) {
+    let run = four_targets();
+    let image = calls::front(space, run.numbers.image);
+    begin(0, run, image);
     write_counted(run, image, buffer, 16);
     at_the_end(run, image, buffer);
     failing(run, image, buffer);
@@ -123,11 +137,57 @@ fn two_failures(i: u64, v: u64, w: u64, space: &mut [u8], buffer: &mut [u8]) {
     };
     let run = calls::begin(y);
     let image = calls::front(space, run.numbers.image);
-    lists::clear(image);
-    calls::head(i, y);
-    calls::pool(run, image);
+    begin(i, run, image);
     write_counted(run, image, buffer, 3);
     failing_two(run, v, w, image, buffer);
+}
+
+// ---- counts
+
+fn count(run: Run, image: &[u8], waiting: u64) -> Run {
+    let after = calls::count(run, waiting);
+    calls::pool(after, image);
+    after
+}
+
+fn counted_panel(run: Run, image: &[u8], waiting: u64) {
+    panel(count(run, image, waiting), image);
+}
+
+// A count that failing target 3 would raise above the bound, which is 8: a target outside is told first.
+fn raised_above(run: Run, image: &[u8], waiting: u64) {
+    let full = count(run, image, waiting);
+    panel(full, image);
+    fail(full, image, 4);
+    fail(full, image, 3);
+}
+
+// Target 3 has failed: false counts, and the true one.
+fn with_two_missing(run: Run, image: &[u8]) {
+    counted_panel(run, image, 8);
+    counted_panel(run, image, 0);
+    counted_panel(run, image, 1);
+    counted_panel(run, image, 3);
+    counted_panel(run, image, 2);
+}
+
+// A count at the bound: that a target has failed, or that none may any more, is told first, and a repair mends it.
+fn mending(run: Run, image: &mut [u8]) {
+    let full = count(run, image, 8);
+    fail(full, image, 3);
+    fail(full, image, 0);
+    panel(repair(full, image), image);
+}
+
+pub fn counts(i: u64, space: &mut [u8]) {
+    let run = four_targets();
+    let image = calls::front(space, run.numbers.image);
+    begin(i, run, image);
+    raised_above(run, image, 8);
+    raised_above(run, image, 7);
+    let failed = fail(count(run, image, 6), image, 3);
+    with_two_missing(failed, image);
+    mending(failed, image);
 }
 
 pub fn runs(space: &mut [u8], buffer: &mut [u8]) {

@@ -1,4 +1,4 @@
-// Seeded runs of events on pools: writes, failures, repairs, reads, looks, scribbles and refused
+// Seeded runs of events on pools: writes, failures, repairs, reads, looks, panels, scribbles, other counts and refused
 // calls, each answer printed with a checksum of the whole image and the record after it.
 mod bad;
 mod calls;
@@ -52,7 +52,7 @@ fn scribble_event(run: Run, image: &mut [u8], seed: &mut u64) {
 }
 
 fn event(run: Run, image: &mut [u8], buffer: &mut [u8], seed: &mut u64) -> Run {
-    let kind = draw(seed, 16);
+    let kind = draw(seed, 18);
     if kind < 5 {
         write_event(run, image, buffer, seed);
         return run;
@@ -75,8 +75,15 @@ fn event(run: Run, image: &mut [u8], buffer: &mut [u8], seed: &mut u64) -> Run {
         scribble_event(run, image, seed);
         return run;
     }
-    bad::event(run, image, buffer, draw(seed, 11));
-    run
+    if kind == 15 {
+        bad::event(run, image, buffer, draw(seed, 13));
+        return run;
+    }
+    if kind == 16 {
+        calls::panel(run.y, run.rec, image);
+        return run;
+    }
+    calls::count(run, drawn::count(run, seed))
 }
 
 // ---- runs
@@ -124,4 +131,5 @@ fn main() {
     let mut buffer = [0u8; 65536];
     fixed::runs(&mut space, &mut buffer);
     drawn_runs(&mut space, &mut buffer, &mut seed);
+    fixed::counts(404, &mut space);
 }

@@ -6,9 +6,11 @@ use mathlib.Core.Logic.{_⊎_}
 use mathlib.Core.Bool.{false}
 use mathlib.Core.List.{List, [], _∷_, _++_}
 use Prim.Native.Nat.{ℕ, _<_}
+use lib.Dec.{eqb}
 use lib.ListN.{length}
+use borrow.Author.Tests.{eq-eqb}
 use Rattle.lists.specs.Tabulate.{at, tabulate, zeros, length-tabulate}
-use Rattle.lists.specs.Refusal.{grant, grant-either}
+use Rattle.lists.specs.Refusal.{_orElse_, refusalBy, grant, grant-yes, grant-either, step-passes}
 use Rattle.numbers.specs.declared.Layout.{Layout}
 use Rattle.numbers.specs.Layouts.{Valid, allGroups, contents, capacity}
 use Rattle.place.specs.Bytes.{targetHere}
@@ -16,13 +18,15 @@ use Rattle.homes.specs.declared.Record.{Record}
 use Rattle.homes.specs.Records.{failed}
 use Rattle.homes.specs.Missing.{missing}
 use Rattle.pool.specs.Contents.{stored}
-use Rattle.pool.specs.Refusals.{lookRefusal}
+use Rattle.pool.specs.Counting.{missingUnits}
+use Rattle.pool.specs.Refusals.{repairRefusal, lookRefusal}
 use Rattle.pool.specs.Looking.{lookScratch, lookShown}
+use Rattle.pool.specs.Auditing.{auditRefusal, panelShows}
 use Rattle.pool.specs.Files.{part, written, encoded}
 use Rattle.pool.specs.Scribbling.{scribbled}
 use Rattle.pool.specs.ScribbleHolds.{scribble-any}
 use Rattle.pool.specs.Changes.{Written, Mended}
-use Rattle.pool.specs.Calls.{Reads, Writes, Fails, Repairs, Prepares, Shows}
+use Rattle.pool.specs.Calls.{Reads, Writes, Fails, Repairs, Prepares, Shows, Panels, Audits}
 use Rattle.pool_list.specs.Ranges.{laidRanges, WritesList}
 use Rattle.pool_list.specs.Kept.{WrittenByOne}
 use Rattle.promises.specs.Runs.{Event, write, writeList, fail, repair, read, look, scribble, State, start, step, run, laidOn}
@@ -119,12 +123,29 @@ pub record OutcomesRight (y : Layout) (s : State) : Type 0 where
       → (x : ℕ) → x < length (s .img) → (at img′ x ≡ at (s .img) x) ⊎ Mended y (s .rec) x
   pub repair-leaves-none : (n count : ℕ) (R′ : Record) (img′ : List ℕ) → Repairs y (s .rec) (s .img) n count R′ img′
       → (g c : ℕ) → c < contents y → missing y R′ g c ≡ false
+  -- an audit finds nothing, and the panel shows how many units are missing
+  pub audit-finds-none : (n : ℕ) → Audits y (s .rec) (s .img) n → n ≡ 0
+  pub panel-shows : (n waiting failed repaired : ℕ) → Panels y (s .rec) (s .img) n waiting failed repaired → (n ≡ 0) × (waiting ≡ missingUnits y (s .rec))
 
 -- the scratch comes back as long as it was lent
 scratch-length : (y : Layout) (R : Record) (img : List ℕ) (room group content : ℕ) → length (lookScratch y R img room group content) ≡ room
 unfolding lookScratch
 scratch-length y R img room group content =
     grant-either (lookRefusal y R (length img) room group content) _ (zeros room) (λ (l : List ℕ). length l ≡ room) (λ z. length-tabulate room _) (λ z. length-tabulate room _)
+
+audited : (y : Layout) (s : State) → Right y s → auditRefusal y (s .rec) (length (s .img)) ≡ 0
+unfolding auditRefusal refusalBy _orElse_
+audited y s r =
+    r .accepted ((eqb (s .rec .waiting) (missingUnits y (s .rec)), 14) ∷ [])
+    ∙ step-passes (eqb (s .rec .waiting) (missingUnits y (s .rec))) 14 0 (eq-eqb (s .rec .waiting) (missingUnits y (s .rec)) (r .counted))
+
+unrefused : (y : Layout) (s : State) → Right y s → repairRefusal y (s .rec) (length (s .img)) ≡ 0
+unfolding repairRefusal refusalBy
+unrefused y s r = r .accepted []
+
+panelled : (y : Layout) (s : State) → Right y s → panelShows y (s .rec) (length (s .img)) (s .rec .waiting) ≡ missingUnits y (s .rec)
+unfolding panelShows
+panelled y s r = grant-yes _ (s .rec .waiting) 0 (unrefused y s r) ∙ r .counted
 
 outcomes-right : (y : Layout) (s : State) → Right y s → OutcomesRight y s
 outcomes-right y s r =
@@ -142,6 +163,8 @@ outcomes-right y s r =
           subst⁻¹ (λ (l : List ℕ). (at l x ≡ at (s .img) x) ⊎ WrittenByOne y (s .rec) ranges x) (p .image) (r .list-only ranges bytes x h);
       repair-changes-only = λ n count R′ img′ p x h. subst⁻¹ (λ (l : List ℕ). (at l x ≡ at (s .img) x) ⊎ Mended y (s .rec) x) (p .image) (r .repair-only x h);
       repair-leaves-none = λ n count R′ img′ p g c h. ap (λ (S : Record). missing y S g c) (p .rec) ∙ r .repaired g c h;
+      audit-finds-none = λ n p. p .answer ∙ audited y s r;
+      panel-shows = λ n waiting failed repaired p. (p .answer ∙ unrefused y s r, p .waits ∙ panelled y s r);
     }
 
 -- ---- demand 3: after any run of calls that keep their promises, from zeros and an empty list

@@ -12,6 +12,7 @@ use Rattle.lists.specs.Refusal.{refusalBy}
 use Rattle.numbers.specs.declared.Layout.{Layout}
 use Rattle.numbers.specs.Layouts.{Valid, allGroups, contents, capacity}
 use Rattle.homes.specs.Missing.{missing}
+use Rattle.pool.specs.Counting.{TrueCount}
 use Rattle.pool.specs.Contents.{stored}
 use Rattle.pool.specs.Refusals.{poolTests, rangeRefusal, lookRefusal}
 use Rattle.pool.specs.Reading.{readOut}
@@ -49,6 +50,8 @@ pub record Right (y : Layout) (s : State) : Type 0 where
   pub repair-only : (x : ℕ) → x < length (s .img) → (at (repairImage y (s .rec) (s .img)) x ≡ at (s .img) x) ⊎ Mended y (s .rec) x
   -- and after it nothing is missing
   pub repaired : (g c : ℕ) → c < contents y → missing y (repairRecord y (s .rec) (length (s .img))) g c ≡ false
+  -- the count of missing units is true
+  pub counted : TrueCount y (s .rec)
   -- no call is refused with 1, 2 or 3: its own tests decide
   pub accepted : (rest : List (Bool × ℕ)) → refusalBy (poolTests y (s .rec) (length (s .img)) rest) ≡ refusalBy rest
 
@@ -62,6 +65,7 @@ right y v s a =
       list-only = λ ranges bytes. list-changes y (s .rec) ranges bytes (s .img);
       repair-only = repair-changes y (s .rec) (s .img);
       repaired = λ g c h. all-repaired y (s .rec) (length (s .img)) (inside-sound y v s a) g c h;
+      counted = a .counted;
       accepted = sound-passes y (s .rec) (length (s .img)) (inside-sound y v s a);
     }
 

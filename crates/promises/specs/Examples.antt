@@ -4,6 +4,7 @@ use mathlib.Core.Bool.{Bool, true, false}
 use mathlib.Core.List.{List, [], _∷_}
 use Prim.Native.Nat.{ℕ}
 use lib.ListN.{take}
+use Rattle.lists.specs.Count.{count, sum}
 use Rattle.lists.specs.Search.{any, all, lowest}
 use Rattle.lists.specs.Tabulate.{tabulate, at as nth}
 use Rattle.lists.specs.Refusal.{_orElse_, refusalBy}
@@ -28,7 +29,8 @@ use Rattle.homes.specs.Listed.{listed}
 use Rattle.homes.specs.Homes.{free, move, homes}
 use Rattle.homes.specs.Records.{recordGood}
 use Rattle.homes.specs.Missing.{home, missing}
-use Rattle.pool.specs.Refusals.{failRefusal}
+use Rattle.pool.specs.Counting.{onTarget}
+use Rattle.pool.specs.Refusals.{otherwise, failRefusal}
 use Rattle.pool.specs.Failing.{failRecord}
 
 abbrev pub layout : ℕ → ℕ → ℕ → ℕ → ℕ → ℕ → Layout
@@ -49,7 +51,7 @@ three y g = placeOf y g 0 ∷ placeOf y g 1 ∷ placeOf y g 2 ∷ []
 
 -- an empty failure list, and that with target 3 failed
 abbrev pub none : Record
-none = record { failed = 0 ∷ 0 ∷ 0 ∷ []; k = 0; q = 0 }
+none = record { failed = 0 ∷ 0 ∷ 0 ∷ []; k = 0; q = 0; waiting = 0 }
 
 abbrev failed3 : Record
 failed3 = failRecord small none 48 3
@@ -80,9 +82,9 @@ pub examples :
     × (mul 2 142 ∷ mul 2 128 ∷ [] ≡ 1 ∷ 29 ∷ [])
     × (coef 1 1 ≡ 232)
     × (encoded (layout 2 2 6 1 1 0) (0 ∷ 2 ∷ 0 ∷ 0 ∷ []) ≡ 0 ∷ 2 ∷ 2 ∷ 205 ∷ [])
-    × (failRefusal small none 48 3 ∷ failed3 .k ∷ nth (failed3 .failed) 0 ∷ [] ≡ 0 ∷ 1 ∷ 3 ∷ [])
+    × (failRefusal small none 48 3 ∷ failed3 .k ∷ nth (failed3 .failed) 0 ∷ failed3 .waiting ∷ [] ≡ 0 ∷ 1 ∷ 3 ∷ 2 ∷ [])
     × (lost 0 ∷ lost 1 ∷ lost 2 ∷ lost 3 ∷ [] ≡ (false ∷ false ∷ []) ∷ (false ∷ false ∷ []) ∷ (true ∷ false ∷ []) ∷ (false ∷ true ∷ []) ∷ [])
     × (newHome 2 0 ∷ newHome 3 1 ∷ [] ≡ at 2 2 ∷ at 2 0 ∷ [])
     × (dataOn 0 3 ∷ dataOn 3 0 ∷ dataOn 4 0 ∷ [] ≡ 4 ∷ 4 ∷ 3 ∷ [])
-unfolding tabulate _orElse_ refusalBy gcd gcdIn lcm block rows groups validb layoutRefusal startOf nextOf drawOf own exchange shuffleOf permutationOf indexOf inverseOf frameOf targetOf groupAt unitAt placeOf unitOf groupOf unitIn byteIn spotOf imageByte any all lowest listed free move homes recordGood home missing failRefusal failRecord _⊕_ mul mulDigits double scale inv powerDigits div coef sumTo parityOf content contentByte encodedOf encodeRefusal encoded
+unfolding count sum tabulate _orElse_ refusalBy gcd gcdIn lcm block rows groups validb layoutRefusal startOf nextOf drawOf own exchange shuffleOf permutationOf indexOf inverseOf frameOf targetOf groupAt unitAt placeOf unitOf groupOf unitIn byteIn spotOf imageByte any all lowest listed free move homes recordGood home missing onTarget otherwise failRefusal failRecord _⊕_ mul mulDigits double scale inv powerDigits div coef sumTo parityOf content contentByte encodedOf encodeRefusal encoded
 examples = (refl, refl, refl, refl, refl, refl, refl, refl, refl, refl, refl, refl, refl, refl, refl, refl, refl, refl)

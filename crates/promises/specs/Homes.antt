@@ -72,7 +72,7 @@ pub fail-lists : (y : Layout) (R : Record) (img : List ℕ) (target n : ℕ) (R�
 unfolding failRecord
 fail-lists y R img target n R′ three p z =
     let ok : failRefusal y R (length img) target ≡ 0 = sym (p .answer) ∙ z in
-    let grows : R′ ≡ grown R target = p .rec ∙ grant-yes (failRefusal y R (length img) target) (grown R target) R ok in (
+    let grows : R′ ≡ grown y R target = p .rec ∙ grant-yes (failRefusal y R (length img) target) (grown y R target) R ok in (
       ap (λ (S : Record). S .k) grows,
       ap (λ (S : Record). failed S target) (p .rec) ∙ fail-listed y R (length img) target three ok,
       (λ i h. ap (λ (S : Record). entry S i) grows ∙ entry-same y R target i h),

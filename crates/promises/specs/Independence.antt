@@ -1,7 +1,7 @@
 -- "But for the hex line, no answer and no other byte depends on a failed target's bytes or an unused spare's, and no call changes them, except that
 -- repair stores at the spares that become homes." For each call, on any layout, record and image: two images that agree elsewhere give the same
--- answers and agree elsewhere afterwards. A refusal number, a record and a repair's count depend on no byte: they take the image's length alone. A list
--- of writes has its statements in `WriteList`.
+-- answers and agree elsewhere afterwards. A refusal number, a record, a repair's count and what the panel shows depend on no byte: they take the image's
+-- length alone. A list of writes has its statements in `WriteList`.
 use mathlib.Core.Path.{_≡_, sym, ap, _∙_}
 use mathlib.Core.Logic.{⊎-elim}
 use mathlib.Core.Bool.{true}
@@ -20,6 +20,7 @@ use Rattle.pool.specs.Writing.{writeImage}
 use Rattle.pool.specs.Failing.{failRecord}
 use Rattle.pool.specs.Repairing.{repairImage, repairRecord, repairCount}
 use Rattle.pool.specs.Looking.{lookScratch, lookShown}
+use Rattle.pool.specs.Auditing.{panelShows, auditRefusal}
 use Rattle.pool.specs.Changes.{Mended, repair-changes, repair-spares-failed}
 use Rattle.pool.specs.Blind.{read-blind, prepare-blind, show-blind}
 use Rattle.pool.specs.Elsewhere.{unseen, AgreeElsewhere, agree-of}
@@ -68,6 +69,13 @@ module _ (y : Layout) (R : Record) (img img′ : List ℕ) (agree : AgreeElsewhe
     repair-elsewhere y R img img′ agree,
   )
 
+  pub panel-independent :
+      (repairRefusal y R (length img) ≡ repairRefusal y R (length img′)) × ((n : ℕ) → panelShows y R (length img) n ≡ panelShows y R (length img′) n)
+  panel-independent = (ap (repairRefusal y R) (sym (agree .same-length)), λ n. ap (λ (len : ℕ). panelShows y R len n) (sym (agree .same-length)))
+
+  pub audit-independent : auditRefusal y R (length img) ≡ auditRefusal y R (length img′)
+  audit-independent = ap (auditRefusal y R) (sym (agree .same-length))
+
   pub prepare-independent : (room group content : ℕ)
       → (lookRefusal y R (length img) room group content ≡ lookRefusal y R (length img′) room group content)
       × (lookScratch y R img room group content ≡ lookScratch y R img′ room group content)
@@ -80,7 +88,7 @@ module _ (y : Layout) (R : Record) (img img′ : List ℕ) (agree : AgreeElsewhe
   show-independent scratch group content =
       (ap (λ (n : ℕ). lookRefusal y R n (length scratch) group content) (sym (agree .same-length)), show-blind y R img img′ (agree-of y R img img′ agree) scratch group content)
 
--- ---- what no call changes: fail, read, prepare and show change no byte of the image at all
+-- ---- what no call changes: fail, read, panel, audit, prepare and show change no byte of the image at all
 
 module _ (y : Layout) (R : Record) (img : List ℕ) (x : ℕ) (in-image : x < length img) where
   -- a write, neither a failed target's byte nor an unused spare's
@@ -94,8 +102,8 @@ module _ (y : Layout) (R : Record) (img : List ℕ) (x : ℕ) (in-image : x < le
   pub repair-leaves-others : (Mended y R x → ⊥) → at (repairImage y R img) x ≡ at img x
   repair-leaves-others no-home = ⊎-elim (λ e. e) (λ w. absurd (no-home w)) (repair-changes y R img x in-image)
 
--- ---- "entries from k on are never read": two records that agree on k, q and the first k entries give the same answers and images, and records that
--- agree likewise
+-- ---- "entries from k on are never read": two records that agree on k, q, the count and the first k entries give the same answers and images, and
+-- records that agree likewise
 
 module _ (y : Layout) (R R′ : Record) (alike : Alike R R′) (img : List ℕ) where
   pub read-unread : (offset size : ℕ)
@@ -123,6 +131,21 @@ module _ (y : Layout) (R R′ : Record) (alike : Alike R R′) (img : List ℕ) 
     U.mended-unread y R R′ alike (length img),
     U.repair-unread y R R′ alike img,
   )
+
+  pub panel-unread :
+      (repairRefusal y R (length img) ≡ repairRefusal y R′ (length img))
+      × (panelShows y R (length img) (R .waiting) ≡ panelShows y R′ (length img) (R′ .waiting))
+      × (panelShows y R (length img) (R .k) ≡ panelShows y R′ (length img) (R′ .k))
+      × (panelShows y R (length img) (R .q) ≡ panelShows y R′ (length img) (R′ .q))
+  panel-unread = (
+    U.repair-number-unread y R R′ alike (length img),
+    U.panel-unread y R R′ alike (length img) (R .waiting) (R′ .waiting) (alike .same-waiting),
+    U.panel-unread y R R′ alike (length img) (R .k) (R′ .k) (alike .same-k),
+    U.panel-unread y R R′ alike (length img) (R .q) (R′ .q) (alike .same-q),
+  )
+
+  pub audit-unread : auditRefusal y R (length img) ≡ auditRefusal y R′ (length img)
+  audit-unread = U.audit-unread y R R′ alike (length img)
 
   pub prepare-unread : (room group content : ℕ)
       → (lookRefusal y R (length img) room group content ≡ lookRefusal y R′ (length img) room group content)

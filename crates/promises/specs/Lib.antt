@@ -10,6 +10,7 @@ pub mod Homes
 pub mod Independence
 pub mod Refusals
 pub mod Tight
+pub mod Counts
 pub mod Catalogue
 pub mod WideNumbers
 pub mod HexLine

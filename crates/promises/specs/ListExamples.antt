@@ -20,7 +20,7 @@ use Rattle.promises.specs.Examples.{layout, small, none}
 
 -- one entry in a list of failed targets of which two are said to be repaired
 abbrev bad : Record
-bad = record { failed = 3 ∷ 0 ∷ 0 ∷ []; k = 1; q = 2 }
+bad = record { failed = 3 ∷ 0 ∷ 0 ∷ []; k = 1; q = 2; waiting = 0 }
 
 -- the number and the range that a list is answered with, over an image of `len` bytes and with a buffer of `room`
 abbrev answer : Record → ℕ → List (List ℕ) → ℕ → List ℕ

@@ -7,7 +7,7 @@ use mathlib.Core.Path.{_≡_, refl, sym, ap, _∙_, subst⁻¹}
 use mathlib.Core.Logic.{⊎-elim}
 use mathlib.Core.Bool.{Bool, true, false, not}
 use mathlib.Core.List.{List, [], _∷_}
-use Prim.Native.Nat.{ℕ, zero, suc, _-_, _<_}
+use Prim.Native.Nat.{ℕ, zero, suc, _+_, _*_, _-_, _<_}
 use native.Mathlib.Nat.{le-refl}
 use native.Mathlib.Omega.{arith}
 use borrow.Author.Tests.{le-leb}
@@ -35,12 +35,14 @@ use Rattle.layout.specs.Offsets.{offsetRefusal, mappedOf, byteRefusal, tracedOf
 use Rattle.layout.specs.Walk.{walkRefusal, stepOf, numberOf}
 use Rattle.homes.specs.declared.Record.{Record}
 use Rattle.homes.specs.Records.{failed, recordGood}
-use Rattle.pool.specs.Refusals.{rangeRefusal, failRefusal, repairRefusal, lookRefusal}
+use Rattle.pool.specs.Counting.{missingUnits, onTarget}
+use Rattle.pool.specs.Refusals.{rangeRefusal, otherwise, failRefusal, repairRefusal, lookRefusal}
 use Rattle.pool.specs.Reading.{readOut}
 use Rattle.pool.specs.Failing.{failRecord}
 use Rattle.pool.specs.Repairing.{repairRecord, repairCount}
 use Rattle.pool.specs.Looking.{lookScratch, lookShown}
-use Rattle.pool.specs.Calls.{Reads, Writes, Fails, Repairs, Prepares, Shows}
+use Rattle.pool.specs.Auditing.{auditRefusal, panelShows}
+use Rattle.pool.specs.Calls.{Reads, Writes, Fails, Repairs, Prepares, Shows, Panels, Audits}
 use Rattle.pool.specs.WriteHolds.{write-refused}
 use Rattle.pool.specs.Changes.{write-none}
 use Rattle.pool.specs.RepairHolds.{repair-refused}
@@ -170,7 +172,7 @@ module _ (y : Layout) where
 -- ---- the pool: n is the number that a call answers
 
 -- what a range of `size` bytes is tested for, and a look with a scratch of `room` bytes; before them what every call tests, of an image of `len` bytes
--- (document 01's numbers once more beside pool's own tables, so that one which is changed there alone is refused here)
+-- (the documents' numbers once more beside pool's own tables, so that one which is changed there alone is refused here)
 module _ (y : Layout) where
   abbrev rangeTable : ℕ → ℕ → List (Bool × ℕ)
   rangeTable offset size = (leb offset (capacity y), 4) ∷ (leb size (capacity y - offset), 4) ∷ []
@@ -180,7 +182,7 @@ module _ (y : Layout) where
 
 module _ (y : Layout) (R : Record) where
   abbrev pub poolTable : ℕ → List (Bool × ℕ) → List (Bool × ℕ)
-  poolTable len own = (validb y, 1) ∷ (eqb len (imageLength y), 2) ∷ (recordGood y R, 3) ∷ own
+  poolTable len own = (validb y, 1) ∷ (eqb len (imageLength y), 2) ∷ (recordGood y R, 3) ∷ (leb (R .waiting) (allGroups y * contents y), 3) ∷ own
 
   -- the second step of a look that answers a place: it is lent lengths alone
   pub locate-lowest : (len room group content : ℕ) → LowestThatApplies (poolTable len (lookTable y room group content)) (shownAt y R len room group content .refusal)
@@ -207,15 +209,29 @@ module _ (y : Layout) (R : Record) (img : List ℕ) where
   unfolding rangeRefusal
   write-lowest offset bytes n img′ p = lowest-of (tableHere (rangeTable y offset (length bytes))) (p .answer) (refusal-lowest 1 _ (omega arith) refl)
 
+  -- fail's own tests of the target; and the compound one: where all the others pass, the raised count must be no more than T·C·(N+K)
+  abbrev targetTable : ℕ → List (Bool × ℕ)
+  targetTable target = (ltb target (y .p), 4) ∷ (not (failed R target), 6) ∷ (not (eqb (R .k) (y .k)), 7) ∷ []
+
+  abbrev staysWithin : ℕ → Bool
+  staysWithin target = grant (refusalBy (tableHere (targetTable target))) (leb (R .waiting + onTarget y R target) (allGroups y * contents y)) true
+
   pub fail-lowest : (target n : ℕ) (R′ : Record) → Fails y R img target n R′
-      → LowestThatApplies (tableHere ((ltb target (y .p), 4) ∷ (not (failed R target), 6) ∷ (not (eqb (R .k) (y .k)), 7) ∷ [])) n
-  unfolding failRefusal
-  fail-lowest target n R′ p =
-      lowest-of (tableHere ((ltb target (y .p), 4) ∷ (not (failed R target), 6) ∷ (not (eqb (R .k) (y .k)), 7) ∷ [])) (p .answer) (refusal-lowest 1 _ (omega arith) refl)
+      → LowestThatApplies (tableHere ((staysWithin target, 3) ∷ targetTable target)) n
+  unfolding failRefusal otherwise
+  fail-lowest target n R′ p = lowest-of (tableHere ((staysWithin target, 3) ∷ targetTable target)) (p .answer) (refusal-lowest 1 _ (omega arith) refl)
 
   pub repair-lowest : (n count : ℕ) (R′ : Record) (img′ : List ℕ) → Repairs y R img n count R′ img′ → LowestThatApplies (tableHere []) n
   unfolding repairRefusal
   repair-lowest n count R′ img′ p = lowest-of (tableHere []) (p .answer) (refusal-lowest 1 _ (omega arith) refl)
+
+  pub panel-lowest : (n waiting failed repaired : ℕ) → Panels y R img n waiting failed repaired → LowestThatApplies (tableHere []) n
+  unfolding repairRefusal
+  panel-lowest n waiting failed repaired p = lowest-of (tableHere []) (p .answer) (refusal-lowest 1 _ (omega arith) refl)
+
+  pub audit-lowest : (n : ℕ) → Audits y R img n → LowestThatApplies (tableHere ((eqb (R .waiting) (missingUnits y R), 14) ∷ [])) n
+  unfolding auditRefusal
+  audit-lowest n p = lowest-of (tableHere ((eqb (R .waiting) (missingUnits y R), 14) ∷ [])) (p .answer) (refusal-lowest 1 _ (omega arith) refl)
 
   pub prepare-lowest : (room group content n : ℕ) (scratch : List ℕ) → Prepares y R img room group content n scratch → LowestThatApplies (tableHere (lookTable y room group content)) n
   unfolding lookRefusal
@@ -252,6 +268,13 @@ module _ (y : Layout) (R : Record) (img : List ℕ) where
     where
       no : repairRefusal y R (length img) ≡ 0 → ⊥
       no z = never (p .answer ∙ z)
+
+  pub panel-refused-zeros : (n waiting failed repaired : ℕ) → Panels y R img n waiting failed repaired → (n ≡ 0 → ⊥)
+      → (waiting ≡ 0) × (failed ≡ 0) × (repaired ≡ 0)
+  unfolding panelShows
+  panel-refused-zeros n waiting failed repaired p never =
+      let no : repairRefusal y R (length img) ≡ 0 → ⊥ = λ z. never (p .answer ∙ z) in
+      (p .waits ∙ grant-no _ _ 0 no, p .fails ∙ grant-no _ _ 0 no, p .mends ∙ grant-no _ _ 0 no)
 
   pub prepare-refused-zeros : (room group content n : ℕ) (scratch : List ℕ) → Prepares y R img room group content n scratch → (n ≡ 0 → ⊥) → scratch ≡ zeros room
   unfolding lookScratch

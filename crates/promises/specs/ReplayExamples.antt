@@ -49,7 +49,8 @@ use Rattle.homes.specs.Homes.{free, move, homes}
 use Rattle.homes.specs.Records.{recordGood}
 use Rattle.homes.specs.Missing.{home, missing}
 use Rattle.pool.specs.Contents.{stored, contentByte, fileByte}
-use Rattle.pool.specs.Refusals.{rangeRefusal, failRefusal, repairRefusal}
+use Rattle.pool.specs.Counting.{missingUnits, onTarget}
+use Rattle.pool.specs.Refusals.{rangeRefusal, otherwise, failRefusal, repairRefusal}
 use Rattle.pool.specs.Reading.{readOut}
 use Rattle.pool.specs.Storing.{owner, cellAfter, storing}
 use Rattle.pool.specs.Writing.{touched, writes, laid, writeImage}
@@ -84,5 +85,5 @@ output =
     10 ∷ 48 ∷ 32 ∷ 52 ∷ 50 ∷ 10 ∷ []
 
 pub whole-trace : replayOutput (linesOf trace) ≡ output
-unfolding tabulate any all lowest within count sum those _orElse_ refusalBy gcd gcdIn lcm block rows groups validb startOf nextOf drawOf own exchange shuffleOf permutationOf indexOf inverseOf frameOf targetOf groupAt unitAt placeOf unitOf groupOf unitIn byteIn offsetOf spotOf targetHere frameHere offsetHere unitHere _⊕_ mul mulDigits double scale inv powerDigits div sumTo coef cof det row num inverse sol systemEntry parityOf content left known dataOf rebuilt listed free move homes recordGood home missing hexDigit stored contentByte fileByte rangeRefusal failRefusal repairRefusal readOut owner cellAfter storing touched writes laid writeImage failRecord repairImage repairRecord repairCount start isDigit digitValue hexOf numberAt fieldsAt isLayout layoutAt formOf kindOf bytesOf toldAs toldOf tenths places decimal printed linesOf firstRefusal playedRecord playedImage answerOf replayPrints replayOutput
+unfolding tabulate any all lowest within count sum those _orElse_ refusalBy gcd gcdIn lcm block rows groups validb startOf nextOf drawOf own exchange shuffleOf permutationOf indexOf inverseOf frameOf targetOf groupAt unitAt placeOf unitOf groupOf unitIn byteIn offsetOf spotOf targetHere frameHere offsetHere unitHere _⊕_ mul mulDigits double scale inv powerDigits div sumTo coef cof det row num inverse sol systemEntry parityOf content left known dataOf rebuilt listed free move homes recordGood home missing hexDigit stored contentByte fileByte rangeRefusal onTarget otherwise failRefusal missingUnits repairRefusal readOut owner cellAfter storing touched writes laid writeImage failRecord repairImage repairRecord repairCount start isDigit digitValue hexOf numberAt fieldsAt isLayout layoutAt formOf kindOf bytesOf toldAs toldOf tenths places decimal printed linesOf firstRefusal playedRecord playedImage answerOf replayPrints replayOutput
 whole-trace = refl

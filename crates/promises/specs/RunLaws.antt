@@ -1,4 +1,4 @@
--- What every event of a run keeps: a good record, and an image that holds the current file. By cases of the event.
+-- What every event of a run keeps: a good record with a true count, and an image that holds the current file. By cases of the event.
 use mathlib.Core.Path.{_≡_, refl, sym, ap, _∙_, subst}
 use mathlib.Core.List.{List, [], _∷_}
 use Prim.Native.Nat.{ℕ, suc}
@@ -10,6 +10,7 @@ use Rattle.numbers.specs.declared.Layout.{Layout}
 use Rattle.numbers.specs.Layouts.{Valid}
 use Rattle.homes.specs.declared.Record.{Record}
 use Rattle.homes.specs.Records.{Good}
+use Rattle.pool.specs.Counting.{TrueCount}
 use Rattle.pool.specs.Refusals.{rangeTests, rangeRefusal}
 use Rattle.pool.specs.Writing.{writeImage}
 use Rattle.pool.specs.Failing.{failRecord}
@@ -21,6 +22,7 @@ use Rattle.pool.specs.WriteHolds.{write-right, write-refused}
 use Rattle.pool.specs.FailHolds.{Kept, fail-right, fail-kept}
 use Rattle.pool.specs.RepairHolds.{repair-right, repair-kept}
 use Rattle.pool.specs.ScribbleHolds.{scribble-right}
+use Rattle.pool.specs.CountLaws.{at-most, unfailed-clear, fail-keeps-true, repair-keeps-true}
 use Rattle.pool.specs.Blind.{Agree, write-agree, fail-agree, repair-agree, scribble-agree}
 use Rattle.pool_list.specs.Ranges.{listTests, listRefusal, laidRanges}
 use Rattle.pool_list.specs.Kept.{list-agree}
@@ -30,16 +32,18 @@ use Rattle.promises.specs.Runs.{Event, write, writeList, fail, repair, r
 pub record Inside (y : Layout) (s : State) : Type 0 where
   pub kept : Kept y (s .rec)
   pub holds : Holds y (s .rec) (s .img) (s .file)
+  pub counted : TrueCount y (s .rec)
 
 pub inside-sound : (y : Layout) → Valid y → (s : State) → Inside y s → Sound y (s .rec) (length (s .img))
-inside-sound y v s i = record { valid = v; len-is = i .holds .image-length; good = i .kept .good }
+inside-sound y v s i =
+    record { valid = v; len-is = i .holds .image-length; good = i .kept .good; within = omega (arith, i .counted, at-most y (s .rec)) }
 
 pub started : (y : Layout) → Valid y → (room : List ℕ) → length room ≡ 3 → Inside y (start y room)
 unfolding start
 started y v room e =
-    let r : Record = record { failed = room; k = 0; q = 0 } in
+    let r : Record = record { failed = room; k = 0; q = 0; waiting = 0 } in
     let g : Good y r = record { few = omega arith; mended = omega arith; below = λ i b. absurd (not-suc-le-zero b); once = λ i b. absurd (not-suc-le-zero b) } in
-    record { kept = record { room = e; good = g }; holds = zeros-hold y r v g }
+    record { kept = record { room = e; good = g }; holds = zeros-hold y r v g; counted = sym (unfailed-clear y r refl) }
 
 pub stepped : (y : Layout) → Valid y → (s : State) → Inside y s → (e : Event) → Inside y (step y s e)
 unfolding step
@@ -51,20 +55,26 @@ stepped y v s a (write offset bytes ok) =
           (λ (f : List ℕ). Holds y (s .rec) (writeImage y (s .rec) (s .img) offset bytes) f)
           (λ z. write-right y (s .rec) (s .img) (s .file) (a .holds) offset bytes ok z)
           (λ z. subst (λ (i : List ℕ). Holds y (s .rec) i (s .file)) (sym (write-refused y (s .rec) (s .img) offset bytes z)) (a .holds));
+      counted = a .counted;
     }
 stepped y v s a (writeList ranges bytes ok) =
-    record { kept = a .kept; holds = list-right ranges bytes ok y (s .rec) (s .img) (s .file) (a .holds) }
+    record { kept = a .kept; holds = list-right ranges bytes ok y (s .rec) (s .img) (s .file) (a .holds); counted = a .counted }
 stepped y v s a (fail target) =
     record {
       kept = fail-kept y (s .rec) (length (s .img)) target (a .kept);
       holds = fail-right y (s .rec) (length (s .img)) target (s .img) (s .file) (a .kept .good) (a .holds);
+      counted = fail-keeps-true y (s .rec) (length (s .img)) target (a .kept .room) (a .counted);
     }
 stepped y v s a repair =
-    record { kept = repair-kept y (s .rec) (length (s .img)) (a .kept); holds = repair-right y (s .rec) (s .img) (s .file) (a .holds) }
+    record {
+      kept = repair-kept y (s .rec) (length (s .img)) (a .kept);
+      holds = repair-right y (s .rec) (s .img) (s .file) (a .holds);
+      counted = repair-keeps-true y (s .rec) (length (s .img)) (a .counted);
+    }
 stepped y v s a (read offset size) = a
 stepped y v s a (look room group content) = a
 stepped y v s a (scribble ink) =
-    record { kept = a .kept; holds = scribble-right y (s .rec) v (a .kept .good) (s .img) (s .file) ink (a .holds) }
+    record { kept = a .kept; holds = scribble-right y (s .rec) v (a .kept .good) (s .img) (s .file) ink (a .holds); counted = a .counted }
 
 pub ran : (y : Layout) → Valid y → (es : List Event) (s : State) → Inside y s → Inside y (run y s es)
 unfolding run

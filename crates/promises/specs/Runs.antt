@@ -18,7 +18,8 @@ use Rattle.pool.specs.Scribbling.{scribbled}
 use Rattle.pool_list.specs.Ranges.{listTests, listRefusal, listImage, laidRanges}
 
 -- an event: a call with any arguments (the bytes of a write and of a list are bytes, the buffer of a read and the scratch of a look have any length),
--- or others scribbling: `ink x` is what they would put at image byte x. No event fills an image from a text (`PoolText`)
+-- or others scribbling: `ink x` is what they would put at image byte x. No event fills an image from a text (`PoolText`), nor is there
+-- one for the panel or the audit (`Counts`): they hand back no record and change no byte
 pub data Event : Type 0 where
   write : (offset : ℕ) (bytes : List ℕ) → ((i : ℕ) → i < length bytes → at bytes i < 256) → Event
   writeList : (ranges : List (List ℕ)) (bytes : List ℕ) → ((i : ℕ) → i < length bytes → at bytes i < 256) → Event
@@ -36,7 +37,7 @@ pub record State : Type 0 where
 
 -- "Start with a pool of zeros and an empty failure list"; `room` are the record's three entries, whatever stands in them
 unfoldable pub start : Layout → List ℕ → State
-start y room = record { rec = record { failed = room; k = 0; q = 0 }; img = zeros (imageLength y); file = zeros (capacity y) }
+start y room = record { rec = record { failed = room; k = 0; q = 0; waiting = 0 }; img = zeros (imageLength y); file = zeros (capacity y) }
 
 -- what an event leaves, accepted or refused. The current file is "zeros, with the accepted writes laid on in order"
 unfoldable pub step : Layout → State → Event → State

@@ -19,7 +19,7 @@ use Rattle.layout.specs.Places.{placedOf, heldOf}
 use Rattle.layout.specs.Offsets.{mappedOf, tracedOf}
 use Rattle.layout.specs.Walk.{stepOf}
 use Rattle.homes.specs.declared.Record.{Record}
-use Rattle.pool.specs.Calls.{Reads, Writes, Fails, Repairs, Prepares, Shows}
+use Rattle.pool.specs.Calls.{Reads, Writes, Fails, Repairs, Prepares, Shows, Panels, Audits}
 use Rattle.pool_look.specs.declared.Shown.{Shown}
 use Rattle.pool_look.specs.Shown.{shownAt}
 
@@ -68,6 +68,12 @@ module _ (y : Layout) (R : Record) (img : List ℕ) where
       → (n ≡ n′) × (k ≡ k′) × (S ≡ S′) × (i ≡ i′)
   repair-tight n n′ k k′ S S′ i i′ p q =
       (same (p .answer) (q .answer), same (p .pairs) (q .pairs), same (p .rec) (q .rec), same (p .image) (q .image))
+
+  pub panel-tight : (n n′ w w′ f f′ m m′ : ℕ) → Panels y R img n w f m → Panels y R img n′ w′ f′ m′ → (n ≡ n′) × (w ≡ w′) × (f ≡ f′) × (m ≡ m′)
+  panel-tight n n′ w w′ f f′ m m′ p q = (same (p .answer) (q .answer), same (p .waits) (q .waits), same (p .fails) (q .fails), same (p .mends) (q .mends))
+
+  pub audit-tight : (n n′ : ℕ) → Audits y R img n → Audits y R img n′ → n ≡ n′
+  audit-tight n n′ p q = same (p .answer) (q .answer)
 
   pub prepare-tight : (room group content n n′ : ℕ) (s s′ : List ℕ) → Prepares y R img room group content n s → Prepares y R img room group content n′ s′
       → (n ≡ n′) × (s ≡ s′)

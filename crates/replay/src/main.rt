@@ -35,6 +35,7 @@ fn fresh() -> Replay
         failed: [0, 0, 0],
         k: 0,
         q: 0,
+        waiting: 0,
     };
     Replay {
         begun: false,

@@ -29,11 +29,23 @@ pub fn record_of(first: u64, k: u64, q: u64) -> Record {
         failed: [first, 0, 0],
         k: k,
         q: q,
+        waiting: 0,
     }
 }
 
 pub fn no_failures() -> Record {
     record_of(0, 0, 0)
+}
+
+// A record that is another's but for its count of missing units.
+pub fn with_count(r: Record, waiting: u64) -> Record {
+    let failed = r.failed;
+    Record {
+        failed,
+        k: r.k,
+        q: r.q,
+        waiting,
+    }
 }
 
 // ---- calls on the row
@@ -72,4 +84,41 @@ pub fn mend(r: Record, image: &mut [u8]) -> Record {
     answer_line(repaired.refusal);
     let rec = repaired.rec;
     rec
+}
+
+// ---- the service panel
+
+// How many units the panel says to wait.
+fn say_waiting(units: u64) {
+    if units == 0 {
+        text(b"no unit waits");
+        return;
+    }
+    if units == 1 {
+        text(b"1 unit waits");
+        return;
+    }
+    decimal(units);
+    text(b" units wait");
+}
+
+fn say_panel(r: Record, image: &[u8]) {
+    text(b"The service panel: ");
+    let shown = pool_count::panel(row(), r, image);
+    if shown.refusal == 0 {
+        say_waiting(shown.waiting);
+        text(b" for repair, ");
+        decimal(shown.repaired);
+        text(b" of ");
+        decimal(shown.failed);
+        text(b" dead drives repaired, ");
+    }
+    answer_line(shown.refusal);
+}
+
+// What the panel shows, and what an audit of the count answers.
+pub fn inspect(r: Record, image: &[u8]) {
+    say_panel(r, image);
+    text(b"The count is audited: ");
+    answer_line(pool_count::audit(row(), r, image));
 }

@@ -11,6 +11,7 @@ use row_trial::record_of;
 use row_trial::row;
 use row_trial::row_of;
 use row_trial::wipe_drive_2;
+use row_trial::with_count;
 use trial::answer;
 use trial::checksum;
 use trial::decimal;
@@ -193,7 +194,9 @@ fn wrong_buffers() {
 
 // That the ranges are outside, and the buffer is too long, makes no difference.
 fn wrong_pools() {
-    text(b"Units of 0 bytes, an image too short and too long, two drives dead, drive 5 dead\n");
+    text(
+        b"Units of 0 bytes, an image too short and too long, two drives dead, drive 5 dead, 16 units missing\n",
+    );
     let ranges = [[81u64, 2u64]; 3];
     let y = row();
     let r = no_failures();
@@ -202,6 +205,7 @@ fn wrong_pools() {
     unchanged(y, r, 161, &ranges, 7);
     unchanged(y, record_of(2, 2, 0), 160, &ranges, 7);
     unchanged(y, record_of(5, 1, 0), 160, &ranges, 7);
+    unchanged(y, with_count(r, 16), 160, &ranges, 7);
 }
 
 fn main() {

@@ -26,7 +26,7 @@ pub struct Sites {
 }
 
 // The divisions are made once a group, for its first unit: the others lie in one cell after another.
-fn sites_of(y: Layout, s: Shape, to: &[u8; 64], g: u64) -> Sites
+pub fn sites_of(y: Layout, s: Shape, to: &[u8; 64], g: u64) -> Sites
     requires { ⌜ InTile y s (now to) g ⌝ }
     ensures { λ r. ⌜ Sited y g r ⌝ }
 {

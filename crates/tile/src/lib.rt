@@ -2,6 +2,7 @@
 ghost use mathlib.Core.Path.{_≡_};
 ghost use Prim.Native.Nat.{_*_, _%_, _^_, _≤_, _<_};
 ghost use lib.ListN.{length};
+ghost use Rattle.lists.specs.Tabulate.{at};
 ghost use Rattle.tile.specs.Generator.{startOf, nextOf, drawOf};
 ghost use Rattle.tile.specs.Permutation.{own, exchange, permutationOf, inverseOf};
 ghost use Rattle.tile.specs.Laws.{Permutes};
@@ -115,6 +116,21 @@ fn inverted(a: [u8; 64]) -> [u8; 64]
         t += 1;
     }
     b
+}
+
+// The column of one target, by the permutation of its tile: the inverse has 64 entries to fill where one is asked for.
+pub fn column_of(a: &[u8; 64], t: u64) -> u64
+    requires { ⌜ (length (now a) ≡ 64) × Permutes 64 (now a) × (t < 64) ⌝ }
+    ensures { λ r. ⌜ r ≡ at (inverseOf (now (a .entry))) t ⌝ }
+{
+    let mut column: usize = 0;
+    while column < 64 {
+        if a[column] as u64 == t {
+            return column as u64;
+        }
+        column += 1;
+    }
+    0
 }
 
 // The column of each target of a tile.

@@ -1,5 +1,5 @@
 //! A kiosk's morning, called from Rust. The C program in ../c tells the same story in the same words.
-use splicebell::{Layout, ListRefusal, Pool, Result};
+use splicebell::{Layout, ListRefusal, Panel, Pool, Result};
 
 /// Two data units, one parity unit and one spare a group, over five drives; units of eight bytes.
 const ROW: Layout = Layout { n: 2, k: 1, p: 5, u: 8, t: 1, cookie: 7 };
@@ -23,6 +23,16 @@ fn show(pool: &Pool, at: u64, bytes: usize) -> Result<()> {
     let mut photograph = vec![0; bytes];
     pool.read(at, &mut photograph)?;
     println!("The claims desk reads \"{}\" at {at}.", String::from_utf8_lossy(&photograph));
+    Ok(())
+}
+
+/// What the service panel shows, once an audit has found its count true.
+fn panel(pool: &Pool) -> Result<()> {
+    pool.audit()?;
+    let Panel { waiting, failed, repaired } = pool.panel()?;
+    println!(
+        "The service panel shows units that wait for repair: {waiting}, drives failed: {failed}, repaired: {repaired}."
+    );
     Ok(())
 }
 
@@ -93,12 +103,14 @@ fn main() -> Result<()> {
     pool.fail(LOST as u64)?;
     pool.image_mut()[LOST * drive..][..drive].fill(0xff);
     println!("Drive {LOST} dies, and what stood on it is lost.");
+    panel(&pool)?;
     show(&pool, 0, FIRST.len())?;
     show(&pool, SECOND_AT, SECOND.len())?;
     show(&pool, TAG_AT, TAG.len())?;
 
     let missing = pool.repair()?;
     println!("The row is repaired: {missing} units were missing.");
+    panel(&pool)?;
     show(&pool, 0, FIRST.len())?;
     show(&pool, SECOND_AT, SECOND.len())?;
     println!("The drives now, each line a drive, a frame and its bytes:");

@@ -1,6 +1,6 @@
 //! `morning`: a kiosk's morning in words and hex lines.
 
-use super::row::{wipe, Row};
+use super::row::{wipe, with_count, Row};
 use super::{answered, line};
 use crate::hexline::hex_line;
 use crate::pool::{read, write};
@@ -11,17 +11,24 @@ pub fn output() -> String {
     row.store(&photograph(24, 0), 0);
     row.store(&photograph(20, 7), 24);
     row.drives("The drives before the rush:");
+    row.inspect();
     row.lose(2);
     wipe(&mut row.image, 2);
+    row.inspect();
     row.show(24, 0);
     row.store(&photograph(30, 13), 40);
     row.lose(2);
     row.lose(4);
+    row.inspect();
     row.mend();
+    row.inspect();
     row.drives("The drives after the repair:");
     row.show(70, 0);
     row.show(12, 70);
     row.mend();
+    row.misread(1);
+    row.misread(15);
+    row.misread(16);
     row.out
 }
 
@@ -46,6 +53,13 @@ impl Row {
         let refusal = read(&self.layout, &self.record, &self.image, offset, &mut bytes);
         let shown = if refusal == 0 { format!("{}, ", words(&bytes)) } else { String::new() };
         line!(self.out, "The claims desk reads {length} bytes at {offset}: {shown}{}", answered(refusal));
+    }
+
+    /// The record comes back from its keeper with another count.
+    fn misread(&mut self, waiting: u64) {
+        line!(self.out, "The record is read as one with {waiting} missing:");
+        self.record = with_count(self.record, waiting);
+        self.inspect();
     }
 
     fn drives(&mut self, title: &str) {

@@ -5,6 +5,7 @@ use crate::draws::{checksum, Draws};
 use crate::layout::{gcd, layout, Layout};
 use crate::place::place;
 use crate::pool::{fail, prepare, read, repair, show, write, Record};
+use crate::pool_count::{audit, missing_units, most_missing, panel};
 
 const ONES: u64 = u64::MAX;
 const RUNS: u64 = 400;
@@ -29,6 +30,7 @@ pub fn output() -> String {
     for index in 4..4 + RUNS {
         out.push_str(&drawn_run(index, &mut draws));
     }
+    out.push_str(&counted_run(4 + RUNS));
     out
 }
 
@@ -42,11 +44,13 @@ fn example_run() -> String {
     run.write(16, &[]);
     run.write(16, &[FILLER]);
     run.fail(3);
+    run.panel();
     run.look(2, 0, 4);
     run.look(3, 1, 4);
     run.look(0, 0, 4);
     run.read(0, 16);
     run.repair();
+    run.panel();
     run.look(2, 0, 4);
     run.look(3, 1, 4);
     run.fail(3);
@@ -68,6 +72,30 @@ fn spare_run(index: u64, order: [u64; 2]) -> String {
     run.look(0, 0, 3);
     run.repair();
     run.look(0, 0, 3);
+    run.out
+}
+
+/// The same row, whose contents are 8, with counts about those that failing
+/// target 3 raises to 8, and about the true one.
+fn counted_run(index: u64) -> String {
+    let mut run = Run::fresh(index, layout(1, 1, 4, 4, 1, 0));
+    for count in [8, 7] {
+        run.count(count);
+        run.panel();
+        run.fail(4);
+        run.fail(3);
+    }
+    run.count(6);
+    run.fail(3);
+    for count in [8, 0, 1, 3, 2] {
+        run.count(count);
+        run.panel();
+    }
+    run.count(8);
+    run.fail(3);
+    run.fail(0);
+    run.repair();
+    run.panel();
     run.out
 }
 
@@ -97,21 +125,23 @@ fn unread_entries(draws: &mut Draws) -> Record {
     let third = draws.draw(64);
     Record {
         failed: [ONES, second, third],
-        k: 0,
-        q: 0,
+        ..Record::default()
     }
 }
 
-/// A legal record with failures already in it.
+/// A legal record with failures already in it, and their true count.
 fn standing_record(draws: &mut Draws, shape: &Layout) -> Record {
     let first = draws.draw(shape.p);
     let k = draws.draw(shape.k + 1);
     let q = draws.draw(k + 1);
-    Record {
+    let record = Record {
         failed: [first, (first + 1) % shape.p, (first + 2) % shape.p],
         k,
         q,
-    }
+        waiting: 0,
+    };
+    let waiting = missing_units(shape, &record);
+    Record { waiting, ..record }
 }
 
 fn drawn_layout(draws: &mut Draws) -> Layout {
@@ -169,7 +199,7 @@ fn drawn_bytes(draws: &mut Draws, length: u64) -> Vec<u8> {
 
 fn fields(record: &Record) -> String {
     let [first, second, third] = record.failed;
-    spaced(&[first, second, third, record.k, record.q])
+    spaced(&[first, second, third, record.k, record.q, record.waiting])
 }
 
 impl Run {
@@ -198,7 +228,7 @@ impl Run {
     }
 
     fn event(&mut self, draws: &mut Draws) {
-        match draws.draw(16) {
+        match draws.draw(18) {
             0..=4 => {
                 let (offset, length) = drawn_range(draws, &self.shape);
                 self.write(offset, &drawn_bytes(draws, length));
@@ -211,7 +241,9 @@ impl Run {
             11 => self.repair(),
             12 | 13 => self.drawn_look(draws),
             14 => self.scribble(draws),
-            _ => self.bad(draws.draw(11)),
+            15 => self.bad(draws.draw(13)),
+            16 => self.panel(),
+            _ => self.drawn_count(draws),
         }
     }
 
@@ -250,6 +282,42 @@ impl Run {
         let (refusal, after, count) = repair(&self.shape, &self.record, &mut self.image);
         self.record = after;
         line!(self.out, "repair {} {}", refusal, count);
+        self.pool_line();
+    }
+
+    /// What the panel shows, and the audit's answer.
+    fn panel(&mut self) {
+        let (shape, record, length) = (self.shape, self.record, self.image.len());
+        self.panel_lines(&shape, &record, length);
+        self.pool_line();
+    }
+
+    /// Both for any layout and record and a part of the image.
+    fn panel_lines(&mut self, shape: &Layout, record: &Record, length: usize) {
+        let image = &self.image[..length];
+        let (refusal, counts) = panel(shape, record, image);
+        let audited = audit(shape, record, image);
+        let shown = spaced(&[counts.waiting, counts.failed, counts.repaired]);
+        line!(self.out, "panel {} {}", refusal, shown);
+        line!(self.out, "audit {}", audited);
+    }
+
+    /// Another count: beside the one that stands there, at the bound, or a
+    /// little below that, where a fail may raise it up to the bound or above.
+    fn drawn_count(&mut self, draws: &mut Draws) {
+        let (now, most) = (self.record.waiting, most_missing(&self.shape));
+        let count = match draws.draw(4) {
+            0 => now.saturating_sub(1),
+            1 => most.min(now + 1),
+            2 => most,
+            _ => most - draws.draw(self.shape.derived().frames + 1),
+        };
+        self.count(count);
+    }
+
+    fn count(&mut self, waiting: u64) {
+        self.record.waiting = waiting;
+        line!(self.out, "count {}", waiting);
         self.pool_line();
     }
 
@@ -312,24 +380,38 @@ impl Run {
         let (shape, record, whole) = (self.shape, self.record, self.image.len());
         let no_unit = Layout { u: 0, ..shape };
         let all_data = Layout { n: ONES, ..shape };
-        let entries = |failed, k, q| Record { failed, k, q };
-        let ones = entries([ONES; 3], ONES, ONES);
+        let entries = |failed, k, q| Record {
+            failed,
+            k,
+            q,
+            waiting: 0,
+        };
+        let counted = |waiting| Record { waiting, ..record };
+        let ones = Record {
+            waiting: ONES,
+            ..entries([ONES; 3], ONES, ONES)
+        };
         match kind {
             0 => (no_unit, record, whole),
             1 => (all_data, record, whole),
             2 => (shape, record, whole - 1),
             3 => (shape, record, 0),
             4 => (shape, entries([0, 1, 2], shape.k + 1, 0), whole),
-            5 => (shape, entries(record.failed, record.k, record.k + 1), whole),
+            5 => {
+                let q = record.k + 1;
+                (shape, Record { q, ..record }, whole)
+            }
             6 => (shape, entries([shape.p, 0, 0], 1, 0), whole),
             7 => (shape, entries([0, 0, 0], 2, 0), whole),
             8 => (shape, ones, whole),
             9 => (no_unit, ones, 0),
-            _ => (shape, ones, whole - 1),
+            10 => (shape, ones, whole - 1),
+            11 => (shape, counted(most_missing(&shape) + 1), whole),
+            _ => (shape, counted(ONES), whole),
         }
     }
 
-    /// All six calls with arguments of which every call refuses some.
+    /// All eight calls with arguments of which every call refuses some.
     fn bad(&mut self, kind: u64) {
         let (shape, record, length) = self.bad_arguments(kind);
         let image = &mut self.image[..length];
@@ -362,6 +444,7 @@ impl Run {
             showing,
             shown
         );
+        self.panel_lines(&shape, &record, length);
         self.pool_line();
     }
 }

@@ -3,6 +3,7 @@
 use super::{answered, line};
 use crate::layout::{layout, Layout};
 use crate::pool::{fail, repair, Record};
+use crate::pool_count::{audit, panel};
 
 /// N=2 K=1 P=5 and cookie 7, with these units and tiles.
 pub(super) fn row(u: u64, t: u64) -> Layout {
@@ -43,6 +44,37 @@ impl Row {
             answered(refusal)
         );
     }
+
+    /// What the service panel shows, and what an audit of the count answers.
+    pub fn inspect(&mut self) {
+        let (refusal, counts) = panel(&self.layout, &self.record, &self.image);
+        let shown = match refusal {
+            0 => format!(
+                "{} for repair, {} of {} dead drives repaired, ",
+                waits(counts.waiting),
+                counts.repaired,
+                counts.failed
+            ),
+            _ => String::new(),
+        };
+        line!(self.out, "The service panel: {shown}{}", answered(refusal));
+        let audited = audit(&self.layout, &self.record, &self.image);
+        line!(self.out, "The count is audited: {}", answered(audited));
+    }
+}
+
+/// How many units the panel says to wait, in words.
+fn waits(units: u64) -> String {
+    match units {
+        0 => "no unit waits".to_string(),
+        1 => "1 unit waits".to_string(),
+        units => format!("{units} units wait"),
+    }
+}
+
+/// A record that is another's but for its count of missing units.
+pub(super) fn with_count(record: Record, waiting: u64) -> Record {
+    Record { waiting, ..record }
 }
 
 /// What stood on a drive of an image of this row is gone.

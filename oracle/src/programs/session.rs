@@ -1,7 +1,7 @@
 //! `session`: the end of a kiosk's session stored by one list of writes, beside
 //! the same writes one after the other, and lists that are refused.
 
-use super::row::{row, wipe, Row};
+use super::row::{row, wipe, with_count, Row};
 use super::{answered, line};
 use crate::draws::checksum;
 use crate::layout::Layout;
@@ -184,11 +184,11 @@ fn in_wrong_pools(out: &mut String) {
     let record = |first, k| Record {
         failed: [first, 0, 0],
         k,
-        q: 0,
+        ..Record::default()
     };
     line!(
         out,
-        "Units of 0 bytes, an image too short and too long, two drives dead, drive 5 dead"
+        "Units of 0 bytes, an image too short and too long, two drives dead, drive 5 dead, 16 units missing"
     );
     for pool in [
         (row(0, 1), record(0, 0), 160),
@@ -196,6 +196,7 @@ fn in_wrong_pools(out: &mut String) {
         (row(8, 1), record(0, 0), 161),
         (row(8, 1), record(2, 2), 160),
         (row(8, 1), record(5, 1), 160),
+        (row(8, 1), with_count(record(0, 0), 16), 160),
     ] {
         unchanged(out, &pool, &[(81, 2); 3], 7);
     }

@@ -1,5 +1,6 @@
 //! What replayed lines are like: each kind by its name, told of a line as it was lent and answered.
 
+use crate::count_kinds::{line_of, Counted};
 use crate::pools::Pool;
 use oracle::layout::{layout, Layout};
 use oracle::pool::Record;
@@ -125,19 +126,26 @@ impl Line<'_> {
         line.len() == length && self.is_malformed_but(&[&line[..20], &line[22..]].concat())
     }
 
-    /// The number that 16 digits of the line tell.
-    fn told(&self, from: usize) -> u64 {
-        let digits = std::str::from_utf8(&self.line[from..from + 16]).expect("of a form");
+    /// The number that some digits of the line tell.
+    fn told(&self, from: usize, digits: usize) -> u64 {
+        let digits = std::str::from_utf8(&self.line[from..from + digits]).expect("of a form");
         u64::from_str_radix(digits, 16).expect("of a form")
     }
 
     fn offset(&self) -> u64 {
-        self.told(3)
+        self.told(3, 16)
     }
 
     /// Of a read.
     fn length(&self) -> u64 {
-        self.told(20)
+        self.told(20, 16)
+    }
+
+    /// The line as a call on the record's count; none where it is malformed or the call was refused.
+    pub fn counted(&self) -> Option<Counted<'_>> {
+        let (event, refusal) = (self.event()?, self.number()? as u64);
+        let target = (EVENTS[event].0 == "fail").then(|| self.told(3, 2));
+        Some(Counted { call: line_of(event), pool: self.pool, refusal, target })
     }
 
     fn capacity(&self) -> u64 {

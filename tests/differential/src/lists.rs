@@ -1,12 +1,13 @@
 //! Lists of writes: drawn, made in one call, and sometimes made again as writes one after the other.
 
 use crate::bench::{hex, Bench};
+use crate::count_kinds::Counted;
+use crate::count_rules::Library;
 use crate::draws::Draws;
 use crate::layouts::lent;
 use crate::list_kinds::{Listed, Range};
 use crate::pool_calls::write_at;
 use crate::pools::Pool;
-use crate::records;
 use crate::tally::Call;
 use oracle::pool_list::{self, MOST_RANGES};
 use splicebell::raw::{self, splicebell_range};
@@ -140,7 +141,7 @@ fn at_once(bench: &mut Bench, pool: &Pool, ranges: &[Range], stored: &[u8]) -> (
     let mut trial = bench.begin(Call::WriteList, &inputs);
     let (image, lent_ranges, bytes) =
         (bench.lend_mut(&pool.image), bench.lend(&list), bench.lend(stored));
-    let (y, r) = (lent(&pool.layout), records::lent(&pool.record));
+    let (y, r) = (lent(&pool.layout), Library::of(bench).record(pool));
     let (at, length) = (image.pointer(), image.len());
     let (first, count) = (lent_ranges.pointer(), lent_ranges.len());
     // SAFETY: the pointers lead to that many elements, and the buffers lie apart.
@@ -157,6 +158,7 @@ fn at_once(bench: &mut Bench, pool: &Pool, ranges: &[Range], stored: &[u8]) -> (
     trial.buffer("bytes", &bytes, stored);
     bench.end(trial, refusal);
     bench.tally.add_list(&Listed { pool, ranges, bytes: stored.len(), refusal, range });
+    bench.tally.add_count(&Counted::of(Call::WriteList, pool, refusal));
     (refusal, after)
 }
 

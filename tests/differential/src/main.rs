@@ -7,6 +7,9 @@ mod catalogue_draws;
 mod catalogue_kinds;
 mod catalogue_rules;
 mod catalogues;
+mod count_kinds;
+mod count_rules;
+mod counts;
 mod damages;
 mod draws;
 mod faults;
@@ -40,7 +43,9 @@ const USAGE: &str =
   --heap   every lent buffer is a heap block of its own: for memcheck
   --spoil  makes a fault on purpose, which must be reported: answer, byte, before, after, look, store,
            rest; of the catalogue's rules second-word-first, first-word-alone, first-word-ignored, half-cob,
-           next-exchanged, half-freed";
+           next-exchanged, half-freed; of the count's rules all-units, own-places, raised-too-little,
+           raised-too-far, raise-first, raised-though-refused, kept-by-repair, taken-by-repair, panel-counts,
+           audit-of-nothing, audit-of-own-places, lower-bound, higher-bound";
 
 /// Under two minutes, also where x86-64 is emulated.
 const USUAL_RUNS: u64 = 300_000;

@@ -1,11 +1,12 @@
 //! The calls that are given an image: read, write, fail, repair, the two steps of a look, the hex line.
 
 use crate::bench::{hex, Bench, Trial};
+use crate::count_kinds::Counted;
+use crate::count_rules::Library;
 use crate::draws::Draws;
 use crate::layouts::{is_light, lent};
 use crate::lent::Lent;
 use crate::pools::Pool;
-use crate::records;
 use crate::tally::Call;
 use oracle::layout::Layout;
 use oracle::pool::Record;
@@ -63,16 +64,17 @@ fn fill_output(
     trial.buffer("image", &image, &pool.image);
     trial.buffer(output, &out, &expected);
     bench.end(trial, refusal);
+    bench.tally.add_count(&Counted::of(call, pool, refusal));
 }
 
 pub fn read(bench: &mut Bench, pool: &Pool) {
     let (offset, length) = range(&mut bench.draws, pool);
     let before = bench.draws.bytes(length);
     let asked = Asked { call: Call::Read, output: "out", before, rest: format!("offset {offset}") };
-    let (y, r) = (&pool.layout, &pool.record);
+    let (y, r, taken) = (&pool.layout, &pool.record, Library::of(bench).record(pool));
     let library = |image: &Lent<u8>, out: &Lent<u8>| {
         let (at, length) = (image.pointer(), image.len());
-        let (y, r) = (lent(y), records::lent(r));
+        let (y, r) = (lent(y), taken);
         // SAFETY: both pointers lead to that many bytes, and the buffers lie apart.
         unsafe { raw::splicebell_read(y, r, at, length, offset, out.pointer(), out.len()) }
     };
@@ -98,7 +100,7 @@ pub fn write_at(
     let inputs = || format!("{} offset {offset} bytes {}", pool.told(), hex(stored));
     let mut trial = bench.begin(Call::Write, &inputs);
     let (image, bytes) = (bench.lend_mut(&pool.image), bench.lend(stored));
-    let (y, r) = (lent(&pool.layout), records::lent(&pool.record));
+    let (y, r) = (lent(&pool.layout), Library::of(bench).record(pool));
     // SAFETY: both pointers lead to that many bytes, and the buffers lie apart.
     let answer = unsafe {
         raw::splicebell_write(
@@ -120,6 +122,7 @@ pub fn write_at(
         trial.buffer("image, against the same bytes stored otherwise", &image, wanted);
     }
     bench.end(trial, refusal);
+    bench.tally.add_count(&Counted::of(Call::Write, pool, refusal));
     after
 }
 
@@ -129,6 +132,7 @@ pub fn compare_record(trial: &mut Trial, answered: &splicebell_record, expected:
     }
     trial.number("k", answered.k, expected.k);
     trial.number("q", answered.q, expected.q);
+    trial.number("waiting", answered.waiting, expected.waiting);
 }
 
 /// A target: mostly any, often one that has failed.
@@ -149,14 +153,15 @@ pub fn fail_target(bench: &mut Bench, pool: &Pool, target: u64) -> Pool {
     let inputs = || format!("{} target {target}", pool.told());
     let mut trial = bench.begin(Call::Fail, &inputs);
     let image = bench.lend(&pool.image);
-    let (y, r) = (lent(&pool.layout), records::lent(&pool.record));
-    // SAFETY: the pointer leads to that many bytes.
-    let answer = unsafe { raw::splicebell_fail(y, r, image.pointer(), image.len(), target) };
+    let answer = Library::of(bench).fail(pool, &image, target);
     let (refusal, record) = oracle::pool::fail(&pool.layout, &pool.record, &pool.image, target);
     trial.number("refusal", answer.refusal, refusal);
     compare_record(&mut trial, &answer.record, &record);
     trial.buffer("image", &image, &pool.image);
     bench.end(trial, refusal);
+    bench
+        .tally
+        .add_count(&Counted { target: Some(target), ..Counted::of(Call::Fail, pool, refusal) });
     Pool { record, ..pool.clone() }
 }
 
@@ -164,9 +169,7 @@ pub fn repair(bench: &mut Bench, pool: &Pool) -> Pool {
     let inputs = || pool.told();
     let mut trial = bench.begin(Call::Repair, &inputs);
     let image = bench.lend_mut(&pool.image);
-    let (y, r) = (lent(&pool.layout), records::lent(&pool.record));
-    // SAFETY: the pointer leads to that many bytes.
-    let answer = unsafe { raw::splicebell_repair(y, r, image.pointer(), image.len()) };
+    let answer = Library::of(bench).repair(pool, &image);
     let mut after = pool.clone();
     let (refusal, record, count) =
         oracle::pool::repair(&pool.layout, &pool.record, &mut after.image);
@@ -176,6 +179,7 @@ pub fn repair(bench: &mut Bench, pool: &Pool) -> Pool {
     compare_record(&mut trial, &answer.record, &record);
     trial.buffer("image", &image, &after.image);
     bench.end(trial, refusal);
+    bench.tally.add_count(&Counted::of(Call::Repair, pool, refusal));
     after
 }
 
@@ -191,10 +195,10 @@ pub fn prepare(bench: &mut Bench, pool: &Pool) {
     let (group, content, before) = look(&mut bench.draws, &pool.layout);
     let rest = format!("group {group} content {content}");
     let asked = Asked { call: Call::Prepare, output: "scratch", before, rest };
-    let (y, r) = (&pool.layout, &pool.record);
+    let (y, r, taken) = (&pool.layout, &pool.record, Library::of(bench).record(pool));
     let library = |image: &Lent<u8>, scratch: &Lent<u8>| {
         let (at, length) = (scratch.pointer(), scratch.len());
-        let (y, r) = (lent(y), records::lent(r));
+        let (y, r) = (lent(y), taken);
         let (image, image_length) = (image.pointer(), image.len());
         // SAFETY: both pointers lead to that many bytes, and the buffers lie apart.
         unsafe { raw::splicebell_prepare(y, r, image, image_length, group, content, at, length) }
@@ -210,7 +214,7 @@ pub fn show(bench: &mut Bench, pool: &Pool) {
         || format!("{} group {group} content {content} scratch {}", pool.told(), hex(&shown));
     let mut trial = bench.begin(Call::Show, &inputs);
     let (image, scratch) = (bench.lend(&pool.image), bench.lend(&shown));
-    let (y, r) = (lent(&pool.layout), records::lent(&pool.record));
+    let (y, r) = (lent(&pool.layout), Library::of(bench).record(pool));
     let (at, length) = (scratch.pointer(), scratch.len());
     // SAFETY: both pointers lead to that many bytes.
     let answer = unsafe {
@@ -228,6 +232,7 @@ pub fn show(bench: &mut Bench, pool: &Pool) {
     trial.buffer("image", &image, &pool.image);
     trial.buffer("scratch", &scratch, &shown);
     bench.end(trial, refusal);
+    bench.tally.add_count(&Counted::of(Call::Show, pool, refusal));
 }
 
 pub fn hex_line(bench: &mut Bench, pool: &Pool) {

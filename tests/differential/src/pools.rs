@@ -1,14 +1,16 @@
 //! Runs of calls on one pool: the state that a call leaves is where the next one starts.
 
 use crate::bench::{hex, Bench};
+use crate::counts::{self, audit, audit_another, fail_about_the_bound, panel, repair_another};
 use crate::draws::Draws;
 use crate::layouts::is_light;
 use crate::lists::write_list;
 use crate::pool_calls::{fail, hex_line, prepare, read, repair, show, write};
 use crate::{layouts, records};
 use oracle::layout::Layout;
-use oracle::place::place;
-use oracle::pool::{homes, unit_targets, Record};
+use oracle::place::{place, unit_targets};
+use oracle::pool::{homes, Record};
+use oracle::pool_count;
 
 /// How long images may be: one in so many pools, up to so many bytes. Long ones are rare, since the model
 /// takes its time.
@@ -17,6 +19,10 @@ const USUAL_IMAGE: u64 = 640;
 /// One in so many pools has frames from here on, which need all six digits of a hex line.
 const TALL: u64 = 2500;
 const SIX_DIGITS: u64 = 1 << 20;
+/// Before one in so many calls the record gets another count of missing units, mostly the true one.
+pub const RECOUNTED: u64 = 6;
+/// One in so many calls is made with a count at the bound or above, or of 0.
+const ENDS: u64 = 5;
 
 /// What a call of the pool is given first: layout, record and image.
 #[derive(Clone)]
@@ -70,6 +76,20 @@ impl Pool {
         }
     }
 
+    /// Whether layout, image and record are good ones.
+    pub fn is_sound(&self) -> bool {
+        pool_count::panel(&self.layout, &self.record, &self.image).0 == 0
+    }
+
+    pub fn with_count(&self, waiting: u64) -> Pool {
+        Pool { record: Record { waiting, ..self.record }, ..self.clone() }
+    }
+
+    /// Another count in the record, mostly the true one.
+    pub fn recount(&mut self, draws: &mut Draws) {
+        self.record.waiting = counts::within(draws, &self.layout, &self.record);
+    }
+
     /// Drawn bytes where no answer may depend on them: on failed targets and on spares that are no home.
     pub fn scribble(&mut self, draws: &mut Draws) {
         let (y, r) = (&self.layout, &self.record);
@@ -92,9 +112,9 @@ impl Pool {
 
     /// A pool in a report.
     pub fn told(&self) -> String {
-        let Record { failed, k, q } = self.record;
-        let layout = layouts::told(&self.layout);
-        format!("{layout} failed {failed:?} k {k} q {q} image {}", hex(&self.image))
+        let Record { failed, k, q, waiting } = self.record;
+        let (layout, image) = (layouts::told(&self.layout), hex(&self.image));
+        format!("{layout} failed {failed:?} k {k} q {q} waiting {waiting} image {image}")
     }
 }
 
@@ -119,8 +139,14 @@ pub fn round(bench: &mut Bench) {
         if bench.draws.one_in(8) {
             pool.scribble(&mut bench.draws);
         }
+        if bench.draws.one_in(RECOUNTED) {
+            pool.recount(&mut bench.draws);
+        }
         if bench.draws.one_in(5) {
             let other = pool.damaged(&mut bench.draws);
+            call(bench, &other);
+        } else if bench.draws.one_in(ENDS) {
+            let other = counts::at_an_end(&mut bench.draws, &pool);
             call(bench, &other);
         } else if let Some(after) = call(bench, &pool) {
             pool = after;
@@ -130,14 +156,19 @@ pub fn round(bench: &mut Bench) {
 
 /// Makes one call; what it leaves, for calls that change the record or the image.
 fn call(bench: &mut Bench, pool: &Pool) -> Option<Pool> {
-    match bench.draws.below(24) {
+    match bench.draws.below(34) {
         0..=3 => read(bench, pool),
         4..=8 => return Some(write(bench, pool)),
         9..=11 => return Some(fail(bench, pool)),
         12..=13 if is_light(&pool.layout) => return Some(repair(bench, pool)),
-        12..=15 => prepare(bench, pool),
-        16..=17 => show(bench, pool),
-        18..=19 => hex_line(bench, pool),
+        12..=16 => prepare(bench, pool),
+        17..=19 => show(bench, pool),
+        20..=21 => hex_line(bench, pool),
+        22..=23 => panel(bench, pool),
+        24 if is_light(&pool.layout) => audit(bench, pool),
+        25..=26 if is_light(&pool.layout) => audit_another(bench, pool),
+        27 if is_light(&pool.layout) => repair_another(bench, pool),
+        24..=29 => fail_about_the_bound(bench, pool),
         _ => return Some(write_list(bench, pool)),
     }
     None

@@ -1,17 +1,18 @@
-//! Failure records: good and bad ones, with anything in the entries that are not in use.
+//! Failure records: good and bad ones, with anything in the entries that are not in use, with true and false counts.
 
+use crate::counts;
 use crate::draws::Draws;
 use oracle::layout::Layout;
 use oracle::pool::Record;
 use splicebell::raw::splicebell_record;
 
 pub fn lent(r: &Record) -> splicebell_record {
-    splicebell_record { failed: r.failed, k: r.k, q: r.q }
+    splicebell_record { failed: r.failed, k: r.k, q: r.q, waiting: r.waiting }
 }
 
 /// No failures yet; anything in the entries.
 pub fn empty(draws: &mut Draws) -> Record {
-    Record { failed: [(); 3].map(|()| unused(draws)), k: 0, q: 0 }
+    Record { failed: [(); 3].map(|()| unused(draws)), k: 0, q: 0, waiting: 0 }
 }
 
 /// An entry from k on, which must not matter: often one that would be bad if it were in use.
@@ -25,9 +26,21 @@ fn unused(draws: &mut Draws) -> u64 {
 
 /// A good record of an accepted layout.
 pub fn good(draws: &mut Draws, y: &Layout) -> Record {
-    let mut record = empty(draws);
-    record.k = draws.between(0, y.k);
-    record.q = draws.between(0, record.k);
+    let k = draws.between(0, y.k);
+    let q = draws.between(0, k);
+    listed(draws, y, k, q)
+}
+
+/// A good record with a target that has failed and is not repaired. The layout has parity units.
+pub fn unrepaired(draws: &mut Draws, y: &Layout) -> Record {
+    let k = draws.between(1, y.k);
+    let q = draws.below(k);
+    listed(draws, y, k, q)
+}
+
+/// Any k targets, of which q are repaired.
+fn listed(draws: &mut Draws, y: &Layout, k: u64, q: u64) -> Record {
+    let mut record = Record { k, q, ..empty(draws) };
     for i in 0..record.k as usize {
         record.failed[i] = loop {
             let target = draws.below(y.p);
@@ -36,7 +49,13 @@ pub fn good(draws: &mut Draws, y: &Layout) -> Record {
             }
         };
     }
+    record.waiting = counts::within(draws, y, &record);
     record
+}
+
+/// The record as if nothing had been repaired: each content's home is its own place.
+pub fn as_at_first(r: &Record) -> Record {
+    Record { q: 0, ..*r }
 }
 
 /// A record that is bad in one way, where the layout has room for that way.
@@ -44,7 +63,7 @@ pub fn bad(draws: &mut Draws, y: &Layout) -> Record {
     let mut record = good(draws, y);
     let edge = draws.edge();
     let used = record.k.min(3);
-    match draws.below(6) {
+    match draws.below(7) {
         0 => record.k = draws.pick(&[y.k.saturating_add(1), 4, edge]),
         1 => record.q = draws.pick(&[record.k + 1, edge]),
         2 if used > 0 => {
@@ -55,8 +74,12 @@ pub fn bad(draws: &mut Draws, y: &Layout) -> Record {
             let last = draws.between(1, used - 1) as usize;
             record.failed[last] = record.failed[draws.below(last as u64) as usize];
         }
-        4 => record = Record { failed: [edge; 3], k: edge, q: edge },
-        _ => record = Record { failed: [u64::MAX; 3], k: u64::MAX, q: u64::MAX },
+        4 => record = Record { failed: [edge; 3], k: edge, q: edge, waiting: edge },
+        5 => record.waiting = counts::above(draws, y),
+        _ => {
+            let ones = u64::MAX;
+            record = Record { failed: [ones; 3], k: ones, q: ones, waiting: ones };
+        }
     }
     record
 }

@@ -1,12 +1,14 @@
 //! Recorded days: first lines and lines of events, right or damaged, and sometimes the same calls made directly.
 
 use crate::bench::{hex, quoted, Bench};
+use crate::count_rules::Library;
+use crate::counts::at_an_end;
 use crate::draws::Draws;
 use crate::layouts::{self, is_light, lent};
 use crate::line_damages::damage;
 use crate::line_kinds::{FirstLine, Line};
 use crate::pool_calls::{compare_record, fail_target, range, repair, target, write_at};
-use crate::pools::Pool;
+use crate::pools::{Pool, RECOUNTED};
 use crate::records;
 use crate::tally::Call;
 use oracle::layout::Layout;
@@ -21,6 +23,8 @@ const WIDE: u64 = 5;
 const LONGEST_WRITE: u64 = (LONGEST_LINE as u64 - 20) / 2;
 /// One in so many played lines is made once more, as a call of its own.
 const DIRECTLY: u64 = 10;
+/// One in so many lines is played with a count of missing units at the bound or above, or of 0.
+const ENDS: u64 = 3;
 /// N, K and P of tiles of a power of two of units, which can make the largest image of all.
 const EVEN_SHAPES: [(u64, u64, u64); 6] =
     [(1, 0, 1), (2, 0, 2), (2, 1, 4), (2, 3, 8), (4, 2, 8), (8, 0, 64)];
@@ -35,10 +39,16 @@ pub fn round(bench: &mut Bench) {
         if bench.draws.one_in(8) {
             pool.scribble(&mut bench.draws);
         }
+        if bench.draws.one_in(RECOUNTED) {
+            pool.recount(&mut bench.draws);
+        }
         if bench.draws.one_in(5) {
             first(bench);
         } else if bench.draws.one_in(5) {
             let other = damaged(&mut bench.draws, &pool);
+            line(bench, &other);
+        } else if bench.draws.one_in(ENDS) {
+            let other = at_an_end(&mut bench.draws, &pool);
             line(bench, &other);
         } else {
             pool = line(bench, &pool);
@@ -213,7 +223,7 @@ fn play(bench: &mut Bench, pool: &Pool, line: &[u8], room: usize) -> (Played, Po
     let mut trial = bench.begin(Call::ReplayLine, &inputs);
     let (image, sent, answer) =
         (bench.lend_mut(&pool.image), bench.lend(line), bench.lend_mut(&before));
-    let (y, r) = (lent(&pool.layout), records::lent(&pool.record));
+    let (y, r) = (lent(&pool.layout), Library::of(bench).record(pool));
     let (at, length) = (image.pointer(), image.len());
     let (first, bytes) = (sent.pointer(), sent.len());
     let (into, room) = (answer.pointer(), answer.len());
@@ -225,7 +235,8 @@ fn play(bench: &mut Bench, pool: &Pool, line: &[u8], room: usize) -> (Played, Po
     after.record = played.record;
     trial.number("refusal", answered.refusal, played.refusal);
     trial.number("length", answered.length, played.answer.len() as u64);
-    compare_record(&mut trial, &answered.record, &played.record);
+    let record = Library::of(bench).handed_back(pool, answered.record);
+    compare_record(&mut trial, &record, &played.record);
     trial.buffer("image", &image, &after.image);
     trial.buffer("line", &sent, line);
     trial.beginning("answer", &answer, &with_answer(&before, &played), played.answer.len());

@@ -1,7 +1,8 @@
-//! Faults made on purpose, one for each kind of comparison and one for each rule of the catalogue's numbers of two words: the
-//! tester must report every one of them.
+//! Faults made on purpose, one for each kind of comparison, one for each rule of the catalogue's numbers of two words and one
+//! for each of the count of missing units: the tester must report every one of them.
 
 use crate::catalogue_rules::Rule;
+use crate::count_rules::CountRule;
 use crate::lent::Lent;
 
 /// What a library with a fault would do.
@@ -23,9 +24,11 @@ pub enum Spoil {
     Rest,
     /// A rule of the catalogue is another.
     Rule(Rule),
+    /// A rule of the count of missing units is another.
+    Count(CountRule),
 }
 
-const KINDS: [(&str, Spoil); 13] = [
+const KINDS: [(&str, Spoil); 26] = [
     ("answer", Spoil::Answer),
     ("byte", Spoil::Byte),
     ("before", Spoil::Before),
@@ -39,6 +42,19 @@ const KINDS: [(&str, Spoil); 13] = [
     ("half-cob", Spoil::Rule(Rule::HalfCob)),
     ("next-exchanged", Spoil::Rule(Rule::NextExchanged)),
     ("half-freed", Spoil::Rule(Rule::HalfFreed)),
+    ("all-units", Spoil::Count(CountRule::AllUnits)),
+    ("own-places", Spoil::Count(CountRule::OwnPlaces)),
+    ("raised-too-little", Spoil::Count(CountRule::RaisedTooLittle)),
+    ("raised-too-far", Spoil::Count(CountRule::RaisedTooFar)),
+    ("raise-first", Spoil::Count(CountRule::RaiseFirst)),
+    ("raised-though-refused", Spoil::Count(CountRule::RaisedThoughRefused)),
+    ("kept-by-repair", Spoil::Count(CountRule::KeptByRepair)),
+    ("taken-by-repair", Spoil::Count(CountRule::TakenByRepair)),
+    ("panel-counts", Spoil::Count(CountRule::PanelCounts)),
+    ("audit-of-nothing", Spoil::Count(CountRule::AuditOfNothing)),
+    ("audit-of-own-places", Spoil::Count(CountRule::AuditOfOwnPlaces)),
+    ("lower-bound", Spoil::Count(CountRule::LowerBound)),
+    ("higher-bound", Spoil::Count(CountRule::HigherBound)),
 ];
 
 impl Spoil {

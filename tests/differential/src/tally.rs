@@ -1,8 +1,9 @@
 //! What has been tried so far: the calls with their refusal numbers, the layouts, the damage done to texts and to
-//! replayed lines, the kinds of lists of writes and of calls on catalogues, and those of replayed lines with the numbers
-//! of their answers.
+//! replayed lines, the kinds of lists of writes, of calls on catalogues and of calls by the count in their record, and
+//! those of replayed lines with the numbers of their answers.
 
 use crate::catalogue_kinds::{Asked, CATALOGUE_KINDS};
+use crate::count_kinds::{Counted, COUNTS, COUNT_KINDS, TAKERS};
 use crate::damages::DAMAGES;
 use crate::line_damages::LINE_DAMAGES;
 use crate::line_kinds::{FirstLine, Line, EVENTS, FIRST_KINDS, LINE_KINDS, MALFORMED};
@@ -27,6 +28,8 @@ pub enum Call {
     Write,
     WriteList,
     Repair,
+    Panel,
+    Audit,
     Prepare,
     Show,
     Lookup,
@@ -41,7 +44,7 @@ pub enum Call {
 }
 
 /// The name of each call, and the numbers that it may answer by include/splicebell.h, beside 0.
-const CALLS: [(&str, &[usize]); 26] = [
+const CALLS: [(&str, &[usize]); 28] = [
     ("measure", &[1]),
     ("tile_permutation", &[1, 4]),
     ("tile_inverse", &[1, 4]),
@@ -57,6 +60,8 @@ const CALLS: [(&str, &[usize]); 26] = [
     ("write", &[1, 2, 3, 4]),
     ("write_list", &[1, 2, 3, 4, 5]),
     ("repair", &[1, 2, 3]),
+    ("panel", &[1, 2, 3]),
+    ("audit", &[1, 2, 3, 14]),
     ("prepare", &[1, 2, 3, 4, 5]),
     ("show", &[1, 2, 3, 4, 5]),
     ("lookup", &[9, 11]),
@@ -76,8 +81,8 @@ impl Call {
     }
 }
 
-/// The refusal numbers, 0 among them: document 01's table, and 12 and 13 of document 02.
-const REFUSALS: usize = 14;
+/// The refusal numbers, 0 among them: document 01's table, and 12, 13 and 14 of document 02.
+const REFUSALS: usize = 15;
 
 /// The lowest and the highest that was seen.
 #[derive(Clone, Copy)]
@@ -135,6 +140,10 @@ pub struct Tally {
     ranges: Range,
     /// How often a call on a catalogue was of each kind.
     catalogues: [u64; CATALOGUE_KINDS.len()],
+    /// How often each call that takes a record had each of the counts that all must meet, and how often one was of each
+    /// kind by its count.
+    counts_taken: [[u64; COUNTS.len()]; TAKERS.len()],
+    counted: [u64; COUNT_KINDS.len()],
     replays: Ranges,
     /// How often each event was answered with each number, and how often a line was malformed.
     events: [[u64; REFUSALS]; EVENTS.len()],
@@ -155,6 +164,8 @@ impl Tally {
         lists: [0; KINDS.len()],
         ranges: Range::NONE,
         catalogues: [0; CATALOGUE_KINDS.len()],
+        counts_taken: [[0; COUNTS.len()]; TAKERS.len()],
+        counted: [0; COUNT_KINDS.len()],
         replays: Ranges::NONE,
         events: [[0; REFUSALS]; EVENTS.len()],
         malformed: 0,
@@ -206,6 +217,17 @@ impl Tally {
         }
     }
 
+    /// A call was made and answered. One that takes no record is not counted here.
+    pub fn add_count(&mut self, call: &Counted) {
+        let Some(taker) = TAKERS.iter().position(|name| *name == call.call) else { return };
+        for ((_, is_met), count) in COUNTS.iter().zip(&mut self.counts_taken[taker]) {
+            *count += u64::from(is_met(call));
+        }
+        for ((_, is_met), count) in COUNT_KINDS.iter().zip(&mut self.counted) {
+            *count += u64::from(is_met(call));
+        }
+    }
+
     /// A layout whose pool lines are played on.
     pub fn add_replay(&mut self, layout: &Layout) {
         self.replays.add(layout);
@@ -232,6 +254,9 @@ impl Tally {
             (Some(event), Some(number)) => self.events[event][number] += 1,
             (None, Some(_)) => self.malformed += 1,
             _ => {}
+        }
+        if let Some(counted) = line.counted() {
+            self.add_count(&counted);
         }
     }
 
@@ -261,11 +286,23 @@ impl Tally {
         for ((name, _), count) in CATALOGUE_KINDS.iter().zip(self.catalogues) {
             println!("catalogue: {name:30}{count:9}");
         }
+        self.print_counts();
         self.print_lines();
         self.all.print("without an image");
         self.pools.print("pools");
         self.texts.print("texts");
         self.replays.print("replays");
+    }
+
+    fn print_counts(&self) {
+        for (taker, counts) in TAKERS.iter().zip(self.counts_taken) {
+            for ((name, _), count) in COUNTS.iter().zip(counts) {
+                println!("count: {taker:17}{name:22}{count:9}");
+            }
+        }
+        for ((name, _), count) in COUNT_KINDS.iter().zip(self.counted) {
+            println!("count: {name:30}{count:9}");
+        }
     }
 
     fn print_lines(&self) {
@@ -286,7 +323,7 @@ impl Tally {
     }
 
     /// The calls and their refusal numbers that were never met, the damage that was never done, and the kinds of
-    /// lists, of calls on catalogues and of replayed lines that were never met.
+    /// lists, of calls on catalogues, of calls by their count and of replayed lines that were never met.
     pub fn never_met(&self) -> Vec<String> {
         let mut never = Vec::new();
         for ((name, refusals), of_call) in CALLS.iter().zip(self.counts) {
@@ -303,6 +340,10 @@ impl Tally {
         never.extend(unmet("a text with", &DAMAGES, &self.damages));
         never.extend(unmet("a list with", &KINDS, &self.lists));
         never.extend(unmet("a call on a catalogue with", &CATALOGUE_KINDS, &self.catalogues));
+        for (taker, counts) in TAKERS.iter().zip(&self.counts_taken) {
+            never.extend(unmet(&format!("{taker} with"), &COUNTS, counts));
+        }
+        never.extend(unmet("a call by its count,", &COUNT_KINDS, &self.counted));
         never.extend(unmet("a line damaged by", &LINE_DAMAGES, &self.line_damages));
         never.extend(unmet("a line with", &LINE_KINDS, &self.lines));
         never.extend(unmet("a first line with", &FIRST_KINDS, &self.firsts));

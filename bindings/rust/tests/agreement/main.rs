@@ -51,7 +51,7 @@ macro_rules! lines_of {
 fn rust_lines() -> Vec<String> {
     lines_of! {
         splicebell_layout { n k p u t cookie }
-        splicebell_record { failed k q }
+        splicebell_record { failed k q waiting }
         splicebell_numbers { w b l c frames groups capacity image }
         splicebell_measured { refusal numbers { w b l c frames groups capacity image } }
         splicebell_entries { refusal entries }
@@ -62,10 +62,11 @@ fn rust_lines() -> Vec<String> {
         splicebell_unit { group unit }
         splicebell_cursor { target frame }
         splicebell_walked { refusal done held { group unit } next { target frame } }
-        splicebell_failed { refusal record { failed k q } }
+        splicebell_failed { refusal record { failed k q waiting } }
         splicebell_range { offset length }
         splicebell_list_written { refusal range }
-        splicebell_repaired { refusal count record { failed k q } }
+        splicebell_repaired { refusal count record { failed k q waiting } }
+        splicebell_counts { refusal waiting failed repaired }
         splicebell_shown { refusal missing begins length }
         splicebell_wide { first second }
         splicebell_entry { device file { first second } cob { first second } }
@@ -75,7 +76,7 @@ fn rust_lines() -> Vec<String> {
         splicebell_page { refusal count more next { first second } }
         splicebell_text_read { refusal line }
         splicebell_first_line { refusal layout { n k p u t cookie } image }
-        splicebell_played { refusal length record { failed k q } }
+        splicebell_played { refusal length record { failed k q waiting } }
     }
 }
 
@@ -182,6 +183,6 @@ fn with_common_names(mut functions: Functions) -> Functions {
 
 #[test]
 fn the_sources_were_read() {
-    assert_eq!(c_functions(&file(HEADER)).len(), 26);
-    assert_eq!(c_structs(&file(HEADER)).len(), 26);
+    assert_eq!(c_functions(&file(HEADER)).len(), 28);
+    assert_eq!(c_structs(&file(HEADER)).len(), 27);
 }

@@ -27,10 +27,11 @@ fn on_a_full_catalogue<T>(call: impl Fn(&mut Catalogue) -> Result<T, Refusal>) -
 }
 
 /// What the library says to a call of each kind, in the order of the numbers.
-fn provoked() -> [Option<Refusal>; 13] {
+fn provoked() -> [Option<Refusal>; 14] {
     let nothing_failed = Record::default();
-    let one_failed = Record { failed: [2, 0, 0], k: 1, q: 0 };
-    let repaired_unfailed = Record { failed: [0; 3], k: 0, q: 1 };
+    let one_failed = Record { failed: [2, 0, 0], k: 1, q: 0, waiting: 2 };
+    let repaired_unfailed = Record { q: 1, ..nothing_failed };
+    let one_waits_unfailed = Record { waiting: 1, ..nothing_failed };
     [
         Layout { p: 65, ..LAYOUT }.measure().err(),
         Pool::new(LAYOUT, &mut [0; IMAGE_LENGTH - 1]).write(0, &[1]).err(),
@@ -45,6 +46,7 @@ fn provoked() -> [Option<Refusal>; 13] {
         on_a_full_catalogue(|catalogue| catalogue.delete(Entry::new(1, 1, 2))),
         LAYOUT.read_text(b"", &mut [0; IMAGE_LENGTH]).err().map(Refusal::from),
         Layout::from_first_line(b"").err(),
+        on_a_pool(one_waits_unfailed, |pool| pool.audit()),
     ]
 }
 
@@ -60,15 +62,17 @@ fn numbers_lead_back_to_their_refusal() {
         assert_eq!(Refusal::from_number(number), Some(refusal));
     }
     assert_eq!(Refusal::from_number(0), None);
-    assert_eq!(Refusal::from_number(14), None);
+    assert_eq!(Refusal::from_number(15), None);
 }
 
-/// docs/TRACE.md quotes document 01's table as `number: words`.
+/// docs/TRACE.md quotes document 01's table as `number: words`. What document 02 adds stands behind `; `.
 #[test]
 fn the_words_are_document_01s() {
     let trace = file("docs/TRACE.md");
     for refusal in Refusal::ALL.into_iter().filter(|refusal| refusal.number() <= 11) {
-        let quoted = format!(" {}: {refusal}", refusal.number());
+        let words = refusal.to_string();
+        let of_the_table = words.split("; ").next().unwrap_or_default();
+        let quoted = format!(" {}: {of_the_table}", refusal.number());
         assert!(trace.contains(&quoted), "docs/TRACE.md does not say{quoted}");
     }
 }

@@ -4,7 +4,7 @@ use Prim.Native.Nat.{ℕ, _-_}
 use native.Mathlib.Omega.{arith}
 use borrow.Author.Needs.{needs}
 use Rattle.lists.specs.Refusal.{refusalBy}
-use Rattle.pool.specs.Refusals.{failTests, failRefusal}
+use Rattle.pool.specs.Refusals.{targetTests, otherwise}
 use Rattle.checks.specs.Tests.{refused-first, passed-first, target-outside, target-again, target-dud, target-fails}
 use Rattle.pool.specs.Asked.{Sound, repair-asked}
 use Rattle.checks.proofs.fail_refusal.Statement.{statement}
@@ -14,15 +14,15 @@ pool-refusal-requires : tie.Need-pool-refusal-requires
 pool-refusal-requires c κs = search needs
 
 returns : tie.Need-returns
-unfolding failRefusal
+unfolding otherwise
 returns c = refused-first _ _ _ _ (c .before .pool-refusal .ensures) (c .if1 .taken)
 
 sound : (c : tie.Else1) → Sound (c .before .before .args .y) (c .before .before .args .r) (c .before .before .args .len)
 sound c = repair-asked _ _ _ (sym (c .before .pool-refusal .ensures) ∙ c .if1 .left)
 
 -- once that has passed, the call's own tests decide
-own : (c : tie.Else1) (target : ℕ) {n : ℕ} → n ≡ refusalBy (failTests (c .before .before .args .y) (c .before .before .args .r) target) → n ≡ failRefusal (c .before .before .args .y) (c .before .before .args .r) (c .before .before .args .len) target
-unfolding failRefusal
+own : (c : tie.Else1) (target : ℕ) {n : ℕ} → n ≡ refusalBy (targetTests (c .before .before .args .y) (c .before .before .args .r) target) → n ≡ otherwise (c .before .before .args .y) (c .before .before .args .r) (c .before .before .args .len) target
+unfolding otherwise
 own c target e = e ∙ sym (passed-first _ _ _ _ (c .before .pool-refusal .ensures) (c .if1 .left))
 
 returns-2 : tie.Need-returns-2

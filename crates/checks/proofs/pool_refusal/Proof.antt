@@ -16,7 +16,7 @@ numbers-of-requires : tie.Need-numbers-of-requires
 numbers-of-requires c κs = good-layout _ (c .before .refusal .ensures) (c .if1 .left)
 
 stored-refusal-requires : tie.Need-stored-refusal-requires
-stored-refusal-requires c κs = (good-layout _ (c .before .before .refusal .ensures) (c .before .if1 .left), c .numbers-of .ensures .image-is)
+stored-refusal-requires c κs = (good-layout _ (c .before .before .refusal .ensures) (c .before .if1 .left), c .numbers-of .ensures)
 
 returns-2 : tie.Need-returns-2
 returns-2 c = search needs

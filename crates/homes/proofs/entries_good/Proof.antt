@@ -11,7 +11,7 @@ use Rattle.homes.proofs.entries_good.Statement.{statement}
 use Rattle.homes.proofs.entries_good.Tie as tie
 
 abbrev Inv-loop : tie.InvT-loop
-Inv-loop y failed k i₀ i = (i ≤ k) × ((n : ℕ) → n < i → entryGood y (record { failed = failed; k = k; q = 0 }) n ≡ true)
+Inv-loop y failed k i₀ i = (i ≤ k) × ((n : ℕ) → n < i → entryGood y (record { failed = failed; k = k; q = 0; waiting = 0 }) n ≡ true)
 
 abbrev μ-loop : tie.MeasureT-loop
 μ-loop y failed k i₀ i = k - i

@@ -1,29 +1,26 @@
--- `homes::record_refusal`: each branch is one of the ways in which a record is bad, or none is left.
-use mathlib.Core.Path.{sym, _∙_}
+-- `homes::record_refusal` meets its contract: the list's test, then the count's.
 use native.Mathlib.Omega.{arith}
-use Rattle.homes.specs.Steps.{too-many, too-mended, by-entries, refused-by, accepted-by}
+use borrow.Author.Needs.{needs}
+use Rattle.homes.specs.Steps.{refused-by-list, count-above, count-within}
 use Rattle.homes.proofs.record_refusal.Statement.{statement}
 use Rattle.homes.proofs.record_refusal.Tie as tie
 
+list-refusal-requires : tie.Need-list-refusal-requires
+list-refusal-requires c κs = search needs
+
 returns : tie.Need-returns
-returns c = let a = c .before .before .before .args in too-many (a .y) (a .r) (c .if1 .taken)
+returns c = refused-by-list _ (c .before .before .args .r) (c .before .list-refusal .ensures) (c .if1 .taken)
 
 returns-2 : tie.Need-returns-2
-returns-2 c = let a = c .before .before .before .before .before .args in too-mended (a .y) (a .r) (omega arith) (c .if2 .taken)
-
-entries-good-requires : tie.Need-entries-good-requires
-entries-good-requires c κs = omega arith
+returns-2 c =
+    count-above _ (c .before .before .before .before .args .r) (c .before .before .before .list-refusal .ensures) (c .before .before .if1 .left)
+    (omega arith)
 
 returns-3 : tie.Need-returns-3
 returns-3 c =
-    let a = c .before .before .before .before .before .before .before .args in
-    accepted-by (a .y) (a .r) (by-entries (a .y) (a .r) (omega arith) (omega arith) ∙ sym (c .before .entries-good .ensures) ∙ c .if3 .taken)
-
-returns-4 : tie.Need-returns-4
-returns-4 c =
-    let a = c .before .before .before .before .before .before .before .args in
-    refused-by (a .y) (a .r) (by-entries (a .y) (a .r) (omega arith) (omega arith) ∙ sym (c .before .entries-good .ensures) ∙ c .if3 .left)
+    count-within _ (c .before .before .before .before .args .r) (c .before .before .before .list-refusal .ensures) (c .before .before .if1 .left)
+    (omega arith)
 
 pub record-refusal-spec : {M : Type 1} → statement M
 record-refusal-spec =
-    tie.close (tie.spec returns returns-2 entries-good-requires returns-3 returns-4)
+    tie.close (tie.spec list-refusal-requires returns returns-2 returns-3)
