@@ -8,8 +8,9 @@ use native.Mathlib.Omega.{arith}
 use lib.Dec.{eqb}
 use lib.ListN.{length}
 use borrow.Author.Tests.{le-leb}
+use Rattle.lists.specs.Pick.{equal-or-not}
 use Rattle.lists.specs.Count.{count}
-use Rattle.lists.specs.Refusal.{refusalBy, grant, unless, _orElse_, grant-yes, orElse-right}
+use Rattle.lists.specs.Refusal.{refusalBy, grant, unless, _orElse_, grant-yes, orElse-left, orElse-right}
 use Rattle.numbers.specs.declared.Layout.{Layout}
 use Rattle.numbers.specs.Layouts.{Valid, frames, allContents, imageLength}
 use Rattle.numbers.specs.Refused.{validb}
@@ -170,19 +171,26 @@ module _ (y : Layout) (R : Record) (n : ℕ) (fits : R .waiting ≤ allContents 
       by′ zero = refl
       by′ (suc m) = refl
 
-  -- and a fail, where neither count would be raised above the bound, raises both by the same
-  pub fail-uncounted : (len target : ℕ) → raised y R target ≤ allContents y → raised y (recounted R n) target ≤ allContents y
+  -- and a fail raises both by the same, unless it is otherwise accepted and would raise one of them above the bound
+  pub fail-uncounted : (len target : ℕ)
+      → (otherwise y R len target ≡ 0 → (raised y R target ≤ allContents y) × (raised y (recounted R n) target ≤ allContents y))
       → (failRefusal y R len target ≡ failRefusal y (recounted R n) len target)
       × (recounted (failRecord y R len target) 0 ≡ recounted (failRecord y (recounted R n) len target) 0)
       × (onTarget y R target ≡ onTarget y (recounted R n) target)
   unfolding failRecord onTarget home
-  fail-uncounted len target up up′ = (number, by (failRefusal y R len target) ∙ rw number (sym (by′ (failRefusal y (recounted R n) len target))), refl)
+  fail-uncounted len target up = (number, by (failRefusal y R len target) ∙ rw number (sym (by′ (failRefusal y (recounted R n) len target))), refl)
     where
+      other : ℕ
+      other = otherwise y R len target
+
       number : failRefusal y R len target ≡ failRefusal y (recounted R n) len target
       number =
           fail-by-steps y R len target
-          ∙ (λ i. otherwise-same len target i
-          orElse unless ((le-leb (raised y R target) (allContents y) up ∙ sym (le-leb (raised y (recounted R n) target) (allContents y) up′)) i) 3)
+          ∙ equal-or-not other 0
+          (λ (z : other ≡ 0). λ i. otherwise-same len target i
+          orElse unless ((le-leb (raised y R target) (allContents y) (up z .0) ∙ sym (le-leb (raised y (recounted R n) target) (allContents y) (up z .1))) i) 3)
+          (λ (ne : other ≡ 0 → ⊥).
+          orElse-left _ _ ne ∙ otherwise-same len target ∙ sym (orElse-left _ _ (λ (z : otherwise y (recounted R n) len target ≡ 0). ne (otherwise-same len target ∙ z))))
           ∙ sym (fail-by-steps y (recounted R n) len target)
 
       by : (m : ℕ) → recounted (grant m (grown y R target) R) 0 ≡ grant m (recounted (grown y R target) 0) (recounted R 0)
@@ -195,7 +203,8 @@ module _ (y : Layout) (R : Record) (n : ℕ) (fits : R .waiting ≤ allContents 
 
   -- a played line likewise, by the call that it tells: it prints the same
   pub play-uncounted : (img : List ℕ) (e : Told)
-      → ((target : ℕ) → e ≡ toldFail target → (raised y R target ≤ allContents y) × (raised y (recounted R n) target ≤ allContents y))
+      → ((target : ℕ) → e ≡ toldFail target → otherwise y R (length img) target ≡ 0
+      → (raised y R target ≤ allContents y) × (raised y (recounted R n) target ≤ allContents y))
       → (answerOf y R img e ≡ answerOf y (recounted R n) img e)
       × (playedImage y R img e ≡ playedImage y (recounted R n) img e)
       × (recounted (playedRecord y R img e) 0 ≡ recounted (playedRecord y (recounted R n) img e) 0)
@@ -204,9 +213,7 @@ module _ (y : Layout) (R : Record) (n : ℕ) (fits : R .waiting ≤ allContents 
   play-uncounted img (toldWrite offset bytes ok) up =
       let same = write-uncounted img offset bytes in (ap (λ (m : ℕ). printed m []) (same .0), same .1, refl)
   play-uncounted img (toldFail target) up =
-      let within = up target refl in
-      let same = fail-uncounted (length img) target (within .0) (within .1) in
-      (ap (λ (m : ℕ). printed m []) (same .0), refl, same .1)
+      let same = fail-uncounted (length img) target (up target refl) in (ap (λ (m : ℕ). printed m []) (same .0), refl, same .1)
   play-uncounted img toldRepair up =
       let same = repair-uncounted img in ((λ i. printed (same .0 i) (32 ∷ decimal (same .1 i))), same .2, same .3)
   play-uncounted img (toldRead offset size) up =

@@ -4,7 +4,6 @@ use numbers::Layout;
 use numbers::Shape;
 use place::Unit;
 ghost use mathlib.Core.Path.{_≡_};
-ghost use mathlib.Core.Bool.{false};
 ghost use Prim.Native.Nat.{_≤_, _<_};
 ghost use Rattle.lists.specs.Pick.{bit};
 ghost use Rattle.numbers.specs.Layouts.{frames};
