@@ -18,6 +18,10 @@ unfolding _orElse_
 or-none zero = refl
 or-none (suc n) = refl
 
+-- where another test refuses a fail, the raised count does not
+other-decides : (y : Layout) (R : Record) (len target : ℕ) → (otherwise y R len target ≡ 0 → ⊥) → staysWithin y R len target ≡ true
+other-decides y R len target ne = grant-no (otherwise y R len target) _ true ne
+
 pub fail-by-steps : (y : Layout) (R : Record) (len target : ℕ)
     → failRefusal y R len target ≡ otherwise y R len target orElse unless (leb (raised y R target) (allContents y)) 3
 unfolding failRefusal otherwise refusalBy
@@ -35,5 +39,5 @@ fail-by-steps y R len target =
     ∙ sym (orElse-right (otherwise y R len target) _ z))
     (λ (ne : otherwise y R len target ≡ 0 → ⊥).
     ap (λ (n : ℕ). unless (validb y) 1 orElse (unless (eqb len (imageLength y)) 2 orElse (unless (recordGood y R) 3 orElse (unless (leb (R .waiting) (allContents y)) 3 orElse n))))
-    (step-passes (staysWithin y R len target) 3 _ (grant-no (otherwise y R len target) _ true ne))
+    (step-passes (staysWithin y R len target) 3 _ (other-decides y R len target ne))
     ∙ sym (orElse-left (otherwise y R len target) _ ne))

@@ -46,8 +46,8 @@ module _ (y : Layout) (s : Shape) (R : Record) (to : List ℕ) (a : Unit) (h : H
   few = omega (arith, h .good .few, h .good .mended)
 
   module _ (targets : List ℕ) (are : TargetsAre y (a .group) targets) where
-    pub can-stand : Standing targets (contents y) (y .k) (R .q)
-    can-stand = standing-of y (h .tile .valid) (a .group) targets are (R .q) few
+    pub can-stand : (j : ℕ) → j ≤ R .k → Standing targets (contents y) (y .k) j
+    can-stand j le = standing-of y (h .tile .valid) (a .group) targets are j (omega (arith, le, h .good .few))
 
     pub by-homes : contents y ≤ a .unit → (r : List ℕ) → HomesAre targets (contents y) (y .k) (R .failed) (R .q) r
         → (b : Bool) → b ≡ listed (at r) (contents y) (a .unit) → b ≡ isHome y R (a .group) (a .unit)

@@ -1,4 +1,5 @@
 -- `tally::is_home` meets its contract: a content's own place, a spare while nothing is repaired, or a spare by the homes of its group.
+use native.Mathlib.Omega.{arith}
 use borrow.Author.Needs.{needs}
 use Rattle.tally.specs.WalkLaws.{own-place, bare-spare, can-stand, by-homes}
 use Rattle.tally.proofs.is_home.Statement.{statement}
@@ -17,7 +18,9 @@ sites-of-requires : tie.Need-sites-of-requires
 sites-of-requires c κs = search needs
 
 homes-of-requires : tie.Need-homes-of-requires
-homes-of-requires c κs = can-stand _ _ _ _ _ (c .before .before .before .before .before .before .pre) _ (c .before .sites-of .ensures .targets-are)
+homes-of-requires c κs =
+    let pre = c .before .before .before .before .before .before .pre in
+    can-stand _ _ _ _ _ pre _ (c .before .sites-of .ensures .targets-are) _ (omega (arith, pre .good .mended))
 
 is-home-requires : tie.Need-is-home-requires
 is-home-requires c κs = search needs
