@@ -29,8 +29,8 @@ unfoldable pub recordGood : Layout → Record → Bool
 recordGood y R = both (leb (R .k) (y .k)) (both (leb (R .q) (R .k)) (all (entryGood y R) (R .k)))
 
 -- by the list alone, and with "A count above T·C·(N+K) .. is 3"
-unfoldable pub listRefusal : Layout → Record → ℕ
-listRefusal y R = refusalBy ((recordGood y R, 3) ∷ [])
+unfoldable pub failuresRefusal : Layout → Record → ℕ
+failuresRefusal y R = refusalBy ((recordGood y R, 3) ∷ [])
 
 unfoldable pub recordRefusal : Layout → Record → ℕ
 recordRefusal y R = refusalBy ((recordGood y R, 3) ∷ (leb (R .waiting) (allContents y), 3) ∷ [])

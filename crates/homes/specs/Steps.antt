@@ -17,7 +17,7 @@ use Rattle.homes.specs.declared.Record.{Record}
 use Rattle.homes.specs.Listed.{listed}
 use Rattle.homes.specs.Homes.{free, move, homes}
 use Rattle.homes.specs.HomesLaws.{homes-apart}
-use Rattle.homes.specs.Records.{entry, entryGood, recordGood, listRefusal, recordRefusal}
+use Rattle.homes.specs.Records.{entry, entryGood, recordGood, failuresRefusal, recordRefusal}
 use Rattle.homes.specs.Standing.{Units, Standing, HomesAre}
 use Rattle.homes.specs.StandingLaws.{move-cong}
 
@@ -34,14 +34,14 @@ module _ (y : Layout) (R : Record) where
   pub entry-fine : (i : ℕ) → entry R i < y .p → listed (entry R) i (entry R i) ≡ false → entryGood y R i ≡ true
   entry-fine i h t = both-hold (ltb (entry R i) (y .p)) _ (lt-ltb (entry R i) (y .p) h) (ap not t)
 
-  pub refused-by : recordGood y R ≡ false → 3 ≡ listRefusal y R
-  unfolding listRefusal refusalBy _orElse_
+  pub refused-by : recordGood y R ≡ false → 3 ≡ failuresRefusal y R
+  unfolding failuresRefusal refusalBy _orElse_
   refused-by e = sym (ap (λ (b : Bool). refusalBy ((b, 3) ∷ [])) e)
 
-  pub too-many : y .k < R .k → 3 ≡ listRefusal y R
+  pub too-many : y .k < R .k → 3 ≡ failuresRefusal y R
   too-many h = refused-by (unfold recordGood in pick-false (leb (R .k) (y .k)) _ false (lt-leb (R .k) (y .k) h))
 
-  pub too-mended : R .k ≤ y .k → R .k < R .q → 3 ≡ listRefusal y R
+  pub too-mended : R .k ≤ y .k → R .k < R .q → 3 ≡ failuresRefusal y R
   too-mended f h =
       refused-by
       (unfold recordGood in
@@ -52,21 +52,21 @@ module _ (y : Layout) (R : Record) where
   unfolding recordGood
   by-entries f h = pick-true (leb (R .k) (y .k)) _ false (le-leb (R .k) (y .k) f) ∙ pick-true (leb (R .q) (R .k)) _ false (le-leb (R .q) (R .k) h)
 
-  pub accepted-by : recordGood y R ≡ true → 0 ≡ listRefusal y R
-  unfolding listRefusal refusalBy _orElse_
+  pub accepted-by : recordGood y R ≡ true → 0 ≡ failuresRefusal y R
+  unfolding failuresRefusal refusalBy _orElse_
   accepted-by e = sym (ap (λ (b : Bool). refusalBy ((b, 3) ∷ [])) e)
 
 -- ---- the count's test
 
 module _ (y : Layout) (R : Record) where
-  list-first : recordRefusal y R ≡ listRefusal y R orElse refusalBy ((leb (R .waiting) (allContents y), 3) ∷ [])
-  unfolding recordRefusal listRefusal
+  list-first : recordRefusal y R ≡ failuresRefusal y R orElse refusalBy ((leb (R .waiting) (allContents y), 3) ∷ [])
+  unfolding recordRefusal failuresRefusal
   list-first = refusal-append ((recordGood y R, 3) ∷ []) ((leb (R .waiting) (allContents y), 3) ∷ [])
 
-  pub refused-by-list : {n : ℕ} → n ≡ listRefusal y R → (n ≡ 0 → ⊥) → n ≡ recordRefusal y R
-  refused-by-list e f = e ∙ sym (list-first ∙ orElse-left _ _ (λ (z : listRefusal y R ≡ 0). f (e ∙ z)))
+  pub refused-by-list : {n : ℕ} → n ≡ failuresRefusal y R → (n ≡ 0 → ⊥) → n ≡ recordRefusal y R
+  refused-by-list e f = e ∙ sym (list-first ∙ orElse-left _ _ (λ (z : failuresRefusal y R ≡ 0). f (e ∙ z)))
 
-  module _ {n : ℕ} (e : n ≡ listRefusal y R) (z : n ≡ 0) where
+  module _ {n : ℕ} (e : n ≡ failuresRefusal y R) (z : n ≡ 0) where
     pub count-above : allContents y < R .waiting → 3 ≡ recordRefusal y R
     unfolding refusalBy _orElse_
     count-above h = sym (list-first ∙ orElse-right _ _ (sym e ∙ z) ∙ simp (lt-leb (R .waiting) (allContents y) h))

@@ -8,7 +8,7 @@ ghost use Rattle.lists.specs.Tabulate.{at};
 ghost use Rattle.numbers.specs.Layouts.{Valid, allContents};
 ghost use Rattle.homes.specs.Listed.{listed};
 ghost use Rattle.homes.specs.Homes.{free, move};
-ghost use Rattle.homes.specs.Records.{entryGood, listRefusal, recordRefusal};
+ghost use Rattle.homes.specs.Records.{entryGood, failuresRefusal, recordRefusal};
 ghost use Rattle.homes.specs.Standing.{Units, HomesAre, MissingAre, Standing};
 
 // The targets that have failed, in order: the first k entries, of which the first q are repaired.
@@ -58,10 +58,10 @@ fn entries_good(y: Layout, r: Record) -> bool
     true
 }
 
-// 3 where the list is bad, else 0. Its counts are tested before any entry is read.
-fn list_refusal(y: Layout, r: Record) -> u64
+// 3 where the list is bad, else 0. k and q are tested before any entry is read.
+fn failures_refusal(y: Layout, r: Record) -> u64
     requires { ⌜ Valid y ⌝ }
-    ensures { λ n. ⌜ n ≡ listRefusal y r ⌝ }
+    ensures { λ n. ⌜ n ≡ failuresRefusal y r ⌝ }
 {
     if y.k < r.k {
         return 3;
@@ -77,7 +77,7 @@ pub fn record_refusal(y: Layout, r: Record, contents: u64) -> u64
     requires { ⌜ Valid y × (contents ≡ allContents y) ⌝ }
     ensures { λ n. ⌜ n ≡ recordRefusal y r ⌝ }
 {
-    let refusal = list_refusal(y, r);
+    let refusal = failures_refusal(y, r);
     if refusal != 0 {
         return refusal;
     }

@@ -1,9 +1,9 @@
--- `homes::list_refusal`: each branch is one of the ways in which a list is bad, or none is left.
+-- `homes::failures_refusal`: each branch is one of the ways in which a list is bad, or none is left.
 use mathlib.Core.Path.{sym, _∙_}
 use native.Mathlib.Omega.{arith}
 use Rattle.homes.specs.Steps.{too-many, too-mended, by-entries, refused-by, accepted-by}
-use Rattle.homes.proofs.list_refusal.Statement.{statement}
-use Rattle.homes.proofs.list_refusal.Tie as tie
+use Rattle.homes.proofs.failures_refusal.Statement.{statement}
+use Rattle.homes.proofs.failures_refusal.Tie as tie
 
 returns : tie.Need-returns
 returns c = let a = c .before .before .before .args in too-many (a .y) (a .r) (c .if1 .taken)
@@ -24,6 +24,6 @@ returns-4 c =
     let a = c .before .before .before .before .before .before .before .args in
     refused-by (a .y) (a .r) (by-entries (a .y) (a .r) (omega arith) (omega arith) ∙ sym (c .before .entries-good .ensures) ∙ c .if3 .left)
 
-pub list-refusal-spec : {M : Type 1} → statement M
-list-refusal-spec =
+pub failures-refusal-spec : {M : Type 1} → statement M
+failures-refusal-spec =
     tie.close (tie.spec returns returns-2 entries-good-requires returns-3 returns-4)
