@@ -114,7 +114,7 @@ pub fn write_group(p: Plan, image: &mut [u8], bytes: &[u8], s: usize, a: usize)
 // ---- repair
 
 // Stores content c, where it is missing, rebuilt, at its new home.
-fn mend_unit(p: Plan, homes: [usize; 19], image: &mut [u8], c: usize)
+pub fn mend_unit(p: Plan, homes: [usize; 19], image: &mut [u8], c: usize)
     requires { ⌜ Fits p (length (now image)) × MendFits p homes (length (now image)) × (c < p .n + p .k) ⌝ }
     ensures { λ _. ⌜ now (image .exit) ≡ pick (missOf p c) (runSet (getD homes c 0) (p .u) (heldRun p (now (image .entry)) 0 c) (now (image .entry))) (now (image .entry)) ⌝ }
 {

@@ -1,4 +1,5 @@
 pub mod Listed
+pub mod Once
 pub mod Homes
 pub mod HomesLaws
 pub mod Records

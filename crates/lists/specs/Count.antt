@@ -7,8 +7,8 @@ use native.Mathlib.Nat.{le-refl, add-zero, add-suc, add-assoc, mul-zero, mul-suc
 use native.Mathlib.Numerals.{add-one}
 use native.Mathlib.Omega.{arith}
 use lib.Dec.{eqb}
-use borrow.Author.Tests.{eq-eqb, ne-eqb}
-use Rattle.lists.specs.Pick.{bit, bit-le, bit-mono, equal-or-not}
+use borrow.Author.Tests.{eqb-true, eq-eqb, ne-eqb}
+use Rattle.lists.specs.Pick.{bit, bit-le, bit-mono, same-truth, equal-or-not, below-or-not}
 use Rattle.lists.specs.Digits.{mod-of}
 
 unfoldable pub count : (ℕ → Bool) → ℕ → ℕ
@@ -104,6 +104,23 @@ unfolding count
 count-weaker f g zero h = omega arith
 count-weaker f g (suc n) h = omega (arith, count-weaker f g n (λ i b. h i (omega arith)), bit-mono (f n) (g n) (h n (omega arith)))
 
+-- and where it counts no more, it holds only where the other does
+pub count-tight : (f g : ℕ → Bool) (n : ℕ) → ((k : ℕ) → k < n → f k ≡ true → g k ≡ true) → count f n ≡ count g n
+    → (k : ℕ) → k < n → g k ≡ true → f k ≡ true
+unfolding count
+count-tight f g zero h e k b t = absurd (not-suc-le-zero b)
+count-tight f g (suc n) h e k b t =
+    let w = count-weaker f g n (λ i l. h i (omega arith)) in
+    let m = bit-mono (f n) (g n) (h n (omega arith)) in
+    ⊎-elim
+    (λ (q : k ≡ n). ap f q ∙ on (f n) (g n) (sym (ap g q) ∙ t) (omega (arith, w, m, e)))
+    (λ (l : k < n). count-tight f g n (λ i a. h i (omega arith)) (omega (arith, w, m, e)) k l t)
+    (eq-or-lt-of-le (le-of-suc-le-suc b))
+  where
+    on : (a c : Bool) → c ≡ true → bit a ≡ bit c → a ≡ true
+    on true c q z = refl
+    on false c q z = absurd (let y : bit c ≡ 1 = ap bit q in omega (arith, y, z))
+
 -- the same but at one number: at most one more
 pub count-more : (f g : ℕ → Bool) (j n : ℕ) → ((k : ℕ) → k < n → (k ≡ j → ⊥) → f k ≡ true → g k ≡ true) → count f n ≤ count g n + 1
 unfolding count
@@ -167,6 +184,23 @@ count-one v (suc n) h = cases (λ l. count-one v n l) (eq-or-lt-of-le (le-of-suc
     cases : (v < n → count (λ k. eqb k v) n ≡ 1) → (v ≡ n) ⊎ (v < n) → count (λ k. eqb k v) n + bit (eqb n v) ≡ 1
     cases ih (inl e) = (λ i. count-none (λ k. eqb k v) n (λ k b. ne-eqb k v (omega arith)) i + bit (eq-eqb n v (sym e) i))
     cases ih (inr l) = (λ i. ih l i + bit (ne-eqb n v (omega arith) i))
+
+-- a test that holds once holds at one number alone, and back
+pub count-single : (f : ℕ → Bool) (n : ℕ) → count f n ≡ 1 → (i j : ℕ) → i < n → j < n → f i ≡ true → f j ≡ true → i ≡ j
+count-single f n e i j hi hj ti tj =
+    equal-or-not i j (λ (q : i ≡ j). q)
+    (λ (ne : i ≡ j → ⊥).
+    below-or-not i j (λ (l : i < j). absurd (twice i j l hj ti tj)) (λ (l : j ≤ i). absurd (twice j i (omega arith) hi tj ti)))
+  where
+    twice : (a b : ℕ) → a < b → b < n → f a ≡ true → f b ≡ true → ⊥
+    twice a b l h ta tb =
+        let one : bit (f a) ≡ 1 = ap bit ta in
+        let two : bit (f b) ≡ 1 = ap bit tb in
+        omega (arith, e, one, two, count-next f a, count-next f b, count-mono f (a + 1) b (omega arith), count-mono f (b + 1) n (omega arith))
+
+pub single-count : (f : ℕ → Bool) (n i : ℕ) → i < n → f i ≡ true → ((j : ℕ) → j < n → f j ≡ true → j ≡ i) → count f n ≡ 1
+single-count f n i h t only =
+    count-same f (λ k. eqb k i) n (λ k b. same-truth (f k) (eqb k i) (λ q. eq-eqb k i (only k b q)) (λ q. ap f (eqb-true k i q) ∙ t)) ∙ count-one i n h
 
 -- v is the remainder by p of q numbers below p q
 pub count-mod : (p v q : ℕ) → v < p → count (λ x. eqb (x % p) v) (p * q) ≡ q

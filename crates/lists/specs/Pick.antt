@@ -63,6 +63,11 @@ eqb-iff a b c d f g =
     equal-or-not c d (λ (e : c ≡ d). eq-eqb a b (g e) ∙ sym (eq-eqb c d e))
     (λ (n : c ≡ d → ⊥). ne-eqb a b (λ (q : a ≡ b). n (f q)) ∙ sym (ne-eqb c d n))
 
+-- and two tests of any kind
+pub same-truth : (a b : Bool) → (a ≡ true → b ≡ true) → (b ≡ true → a ≡ true) → a ≡ b
+same-truth true b f g = sym (f refl)
+same-truth false b f g = sym (not-both-ways b (λ t. clash false (g t) refl))
+
 pub both-off : (t : Bool) → both t false ≡ false
 both-off true = refl
 both-off false = refl

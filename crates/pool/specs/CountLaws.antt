@@ -1,19 +1,18 @@
 -- A failure raises the missing units by those on its target, a repair leaves none, and they are never more than T·C·(N+K).
 use mathlib.Core.Path.{_≡_, sym, ap, _∙_}
-use mathlib.Core.Bool.{true, false}
+use mathlib.Core.Bool.{false}
 use Prim.Native.Nat.{ℕ, suc, _+_, _≤_, _<_}
 use native.Mathlib.Omega.{arith}
-use lib.Dec.{eqb}
 use lib.ListN.{length}
 use lib.Seq.{getD-set-same}
-use borrow.Author.Tests.{eq-eqb, ne-eqb}
-use Rattle.lists.specs.Pick.{pick, bit, pick-true, pick-false, equal-or-not}
+use Rattle.lists.specs.Pick.{bit}
 use Rattle.lists.specs.Search.{any}
 use Rattle.lists.specs.Count.{count, sum, count-le, count-none, count-two, sum-two, sum-none, sum-le}
 use Rattle.numbers.specs.declared.Layout.{Layout}
 use Rattle.numbers.specs.Layouts.{Valid, allGroups, contents, allContents}
 use Rattle.homes.specs.declared.Record.{Record}
-use Rattle.homes.specs.Listed.{listed, listed-same}
+use Rattle.homes.specs.Listed.{listed}
+use Rattle.homes.specs.Once.{listed-more}
 use Rattle.homes.specs.Records.{entry, failed, Good}
 use Rattle.homes.specs.Missing.{targetAt, home, missing}
 use Rattle.lists.specs.Refusal.{grant-either}
@@ -26,23 +25,6 @@ use Rattle.pool.specs.RepairHolds.{none-missing}
 use Rattle.pool.specs.Counting.{missingPairs, missingUnits, TrueCount, homeOn, onTarget}
 
 -- ---- a failure
-
--- the list with t at its end
-pub listed-more : (e e′ : ℕ → ℕ) (k t : ℕ) → ((i : ℕ) → i < k → e′ i ≡ e i) → e′ k ≡ t → listed e k t ≡ false
-    → (x : ℕ) → bit (listed e′ (suc k) x) ≡ bit (listed e k x) + bit (eqb x t)
-unfolding listed any
-listed-more e e′ k t same last new x =
-    equal-or-not x t
-    (λ (q : x ≡ t).
-    let before : bit (any (λ i. eqb (e i) x) k) ≡ 0 = ap bit (ap (listed e k) q ∙ new) in
-    let on : bit (eqb x t) ≡ 1 = ap bit (eq-eqb x t q) in
-    let after : bit (pick (eqb (e′ k) x) true (any (λ i. eqb (e′ i) x) k)) ≡ 1 = ap bit (pick-true (eqb (e′ k) x) true _ (eq-eqb (e′ k) x (last ∙ sym q))) in
-    omega arith)
-    (λ (ne : x ≡ t → ⊥).
-    let off : bit (eqb x t) ≡ 0 = ap bit (ne-eqb x t ne) in
-    let after : bit (pick (eqb (e′ k) x) true (any (λ i. eqb (e′ i) x) k)) ≡ bit (any (λ i. eqb (e i) x) k) =
-    ap bit (pick-false (eqb (e′ k) x) true _ (ne-eqb (e′ k) x (λ (z : e′ k ≡ x). ne (sym z ∙ last))) ∙ listed-same e′ e k x same) in
-    omega arith)
 
 module _ (y : Layout) (R : Record) (t : ℕ) (room : R .k < length (R .failed)) (mended : R .q ≤ R .k) (new : failed R t ≡ false) where
   -- a content is missing afterwards where it was, or where its home was on t, and never both

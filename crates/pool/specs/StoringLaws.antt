@@ -9,7 +9,7 @@ use lib.Dec.{ltb, eqb}
 use lib.ListN.{length}
 use Rattle.lists.specs.Pick.{pick, both, pick-false, either-way, both-true}
 use Rattle.lists.specs.Search.{any-true, lowest-is, lowest-passes}
-use Rattle.lists.specs.Tabulate.{at, length-tabulate, getD-tabulate, tabulated}
+use Rattle.lists.specs.Tabulate.{at, length-tabulate, getD-tabulate, tabulated, tabulate-ext}
 use Rattle.numbers.specs.declared.Layout.{Layout}
 use Rattle.numbers.specs.Layouts.{Valid, allGroups, contents, imageLength}
 use Rattle.place.specs.Bytes.{spot, unitHere, offsetHere}
@@ -46,6 +46,20 @@ cell-off m on val g o c old e = by (ltb c m)
     by : (t : Bool) → pick (both t (on g o c)) (val g o c) old ≡ old
     by true = pick-false (on g o c) (val g o c) old e
     by false = refl
+
+-- the group of image byte x, and the content whose home under the first j entries is there
+abbrev pub groupHere : Layout → ℕ → ℕ
+groupHere y x = unitHere y x .group
+
+abbrev pub ownerHere : Layout → Record → ℕ → ℕ → ℕ
+ownerHere y R j x = owner y R j (groupHere y x) (unitHere y x .unit)
+
+-- byte x afterwards
+pub storing-cell : (y : Layout) (R : Record) (j : ℕ) (on : ℕ → ℕ → ℕ → Bool) (val : ℕ → ℕ → ℕ → ℕ) (img : List ℕ) (x : ℕ) → x < length img
+    → at (storing y R j on val img) x
+    ≡ pick (both (ltb (ownerHere y R j x) (contents y)) (on (groupHere y x) (offsetHere y x) (ownerHere y R j x))) (val (groupHere y x) (offsetHere y x) (ownerHere y R j x)) (at img x)
+unfolding storing cellAfter
+storing-cell y R j on val img x h = getD-tabulate (length img) _ x 0 h
 
 -- nothing is stored: the image is as it was
 pub storing-none : (y : Layout) (R : Record) (j : ℕ) (on : ℕ → ℕ → ℕ → Bool) (val : ℕ → ℕ → ℕ → ℕ) (img : List ℕ)
@@ -128,3 +142,26 @@ module _ (y : Layout) (v : Valid y) (R : Record) (j : ℕ) (on : ℕ → ℕ →
 
       off : ltb c (contents y) ≡ false → (p q : ℕ) → pick (both (ltb c (contents y)) (on g o c)) p q ≡ q
       off t p q = ap (λ (s : Bool). pick (both s (on g o c)) p q) t
+
+-- ---- what is stored hangs on the tests, and on the values where they hold
+
+cell-alike : (t s s′ : Bool) (a a′ b : ℕ) → (t ≡ true → s ≡ s′) → (t ≡ true → s ≡ true → a ≡ a′) → pick (both t s) a b ≡ pick (both t s′) a′ b
+cell-alike true true s′ a a′ b h e = e refl refl ∙ ap (λ (z : Bool). pick z a′ b) (h refl)
+cell-alike true false s′ a a′ b h e = ap (λ (z : Bool). pick z a′ b) (h refl)
+cell-alike false s s′ a a′ b h e = refl
+
+pub storing-alike : (y : Layout) → Valid y → (R : Record) (j : ℕ) (on on′ : ℕ → ℕ → ℕ → Bool) (val val′ : ℕ → ℕ → ℕ → ℕ) (img : List ℕ) → length img ≡ imageLength y
+    → ((g o c : ℕ) → g < allGroups y → o < y .u → c < contents y → on g o c ≡ on′ g o c)
+    → ((g o c : ℕ) → g < allGroups y → o < y .u → c < contents y → on g o c ≡ true → val g o c ≡ val′ g o c)
+    → storing y R j on val img ≡ storing y R j on′ val′ img
+unfolding storing cellAfter
+storing-alike y v R j on on′ val val′ img len eo ev =
+    tabulate-ext 0 (length img) _ _
+    (λ x h.
+    let g = groupHere y x in
+    let o = offsetHere y x in
+    let c = ownerHere y R j x in
+    let hg : g < allGroups y = group-here-lt y v x (subst (λ (m : ℕ). x < m) len h) in
+    let ho : o < y .u = offset-here-lt y v x in
+    cell-alike (ltb c (contents y)) (on g o c) (on′ g o c) (val g o c) (val′ g o c) (at img x)
+    (λ t. eo g o c hg ho (ltb-true c (contents y) t)) (λ t. ev g o c hg ho (ltb-true c (contents y) t)))

@@ -12,11 +12,11 @@ use Rattle.numbers.specs.declared.Layout.{Layout}
 use Rattle.numbers.specs.Layouts.{Valid, allGroups, contents}
 use Rattle.homes.specs.declared.Record.{Record}
 use Rattle.homes.specs.Listed.{listed, unlisted}
+use Rattle.homes.specs.Once.{listed-more}
 use Rattle.homes.specs.Records.{entry, Good}
 use Rattle.homes.specs.Missing.{targetAt, home, missing}
 use Rattle.homes.specs.MissingLaws.{home-alive}
 use Rattle.pool.specs.Counting.{missingUnits, homeOn, onTarget}
-use Rattle.pool.specs.CountLaws.{listed-more}
 
 module _ (y : Layout) (R : Record) (good : Good y R) where
   -- the contents whose home under the first q entries is on one of the first j

@@ -47,7 +47,7 @@ pub record Alike (R R′ : Record) : Type 0 where
   pub same-entries : (i : ℕ) → i < R .k → entry R i ≡ entry R′ i
 
 -- two answers of one kind: the same number, and where it is 0 the same accepted answer
-grant-same : {A : Type 0} (n n′ : ℕ) (a a′ b : A) → n ≡ n′ → (n ≡ 0 → a ≡ a′) → grant n a b ≡ grant n′ a′ b
+pub grant-same : {A : Type 0} (n n′ : ℕ) (a a′ b : A) → n ≡ n′ → (n ≡ 0 → a ≡ a′) → grant n a b ≡ grant n′ a′ b
 grant-same zero n′ a a′ b e f = f refl ∙ ap (λ (m : ℕ). grant m a′ b) e
 grant-same (suc n) n′ a a′ b e f = ap (λ (m : ℕ). grant m a′ b) e
 
@@ -88,7 +88,7 @@ module _ (y : Layout) (R R′ : Record) (alike : Alike R R′) where
         fun-ext (λ (g : ℕ). fun-ext (λ (c : ℕ). home-unread y (R .failed) (R′ .failed) (R .k) (R .q) (R .waiting) (alike .same-entries) (R .q) g c le))
         ∙ ap (λ (S : Record). home y S (S .q)) is-twin
 
-    new-homes-unread : home y R (R .k) ≡ home y R′ (R′ .k)
+    pub new-homes-unread : home y R (R .k) ≡ home y R′ (R′ .k)
     new-homes-unread =
         fun-ext (λ (g : ℕ). fun-ext (λ (c : ℕ). home-unread y (R .failed) (R′ .failed) (R .k) (R .q) (R .waiting) (alike .same-entries) (R .k) g c (le-refl (R .k))))
         ∙ ap (λ (S : Record). home y S (S .k)) is-twin
@@ -97,11 +97,19 @@ module _ (y : Layout) (R R′ : Record) (alike : Alike R R′) where
     lost-unread =
         fun-ext (λ (g : ℕ). fun-ext (λ (c : ℕ). missing-unread y (R .failed) (R′ .failed) (R .k) (R .q) (R .waiting) (alike .same-entries) le g c)) ∙ ap (missing y) is-twin
 
-    bytes-unread : (img : List ℕ) → contentByte y R img ≡ contentByte y R′ img
-    unfolding contentByte stored
-    bytes-unread img = λ i g o c. rebuilt (y .n) (y .k) (lost-unread i g) (λ d. at img (spot y g (homes-unread i g d) o)) c
+    pub units-unread : missingUnits y R ≡ missingUnits y R′
+    unfolding missingUnits
+    units-unread = λ i. sum (λ g. count (lost-unread i g) (contents y)) (allGroups y)
 
-  storing-unread : (j j′ : ℕ) → home y R j ≡ home y R′ j′ → (on on′ : ℕ → ℕ → ℕ → Bool) → on ≡ on′ → (val val′ : ℕ → ℕ → ℕ → ℕ) → val ≡ val′ → (img : List ℕ)
+    pub stored-unread : (img : List ℕ) → stored y R img ≡ stored y R′ img
+    unfolding stored
+    stored-unread img = λ i g o c. at img (spot y g (homes-unread i g c) o)
+
+    bytes-unread : (img : List ℕ) → contentByte y R img ≡ contentByte y R′ img
+    unfolding contentByte
+    bytes-unread img = λ i g o c. rebuilt (y .n) (y .k) (lost-unread i g) (stored-unread img i g o) c
+
+  pub storing-unread : (j j′ : ℕ) → home y R j ≡ home y R′ j′ → (on on′ : ℕ → ℕ → ℕ → Bool) → on ≡ on′ → (val val′ : ℕ → ℕ → ℕ → ℕ) → val ≡ val′ → (img : List ℕ)
       → storing y R j on val img ≡ storing y R′ j′ on′ val′ img
   unfolding storing owner
   storing-unread j j′ eh on on′ eo val val′ ev img =
@@ -110,6 +118,16 @@ module _ (y : Layout) (R R′ : Record) (alike : Alike R R′) where
       (lowest (λ c. eqb (eh i (unitHere y x .group) c) (unitHere y x .unit)) (contents y)) (at img x))
 
   -- ---- the calls
+
+  -- a call's own tests that see no more of the record
+  pub own-unread : (len : ℕ) (rest rest′ : List (Bool × ℕ)) → (R .q ≤ R .k → rest ≡ rest′) → refusalBy (poolTests y R len rest) ≡ refusalBy (poolTests y R′ len rest′)
+  own-unread len rest rest′ same =
+      equal-or-not (repairRefusal y R len) 0
+      (λ (z : repairRefusal y R len ≡ 0).
+      tests-same len rest ∙ ap (λ (t : List (Bool × ℕ)). refusalBy (poolTests y R′ len t)) (same (repair-asked y R len z .good .mended)))
+      (λ (ne : repairRefusal y R len ≡ 0 → ⊥).
+      pool-first y R len rest ∙ orElse-left _ _ ne ∙ repair-number-unread len
+      ∙ sym (pool-first y R′ len rest′ ∙ orElse-left _ _ (λ (z : repairRefusal y R′ len ≡ 0). ne (repair-number-unread len ∙ z))))
 
   otherwise-unread : (len target : ℕ) → otherwise y R len target ≡ otherwise y R′ len target
   unfolding otherwise
@@ -163,26 +181,17 @@ module _ (y : Layout) (R R′ : Record) (alike : Alike R R′) where
       storing-unread (R .k) (R′ .k) (new-homes-unread le) _ _ (λ i g o c. lost-unread le i g c) _ _ (bytes-unread le img) img)
 
   pub count-unread : (len : ℕ) → repairCount y R len ≡ repairCount y R′ len
-  unfolding repairCount missingUnits
+  unfolding repairCount
   count-unread len =
-      grant-same (repairRefusal y R len) (repairRefusal y R′ len) _ _ 0 (repair-number-unread len)
-      (λ z. let gone = lost-unread (repair-asked y R len z .good .mended) in λ i. sum (λ g. count (gone i g) (contents y)) (allGroups y))
+      grant-same (repairRefusal y R len) (repairRefusal y R′ len) _ _ 0 (repair-number-unread len) (λ z. units-unread (repair-asked y R len z .good .mended))
 
   pub panel-unread : (len n n′ : ℕ) → n ≡ n′ → panelShows y R len n ≡ panelShows y R′ len n′
   unfolding panelShows
   panel-unread len n n′ e = λ i. grant (repair-number-unread len i) (e i) 0
 
   pub audit-unread : (len : ℕ) → auditRefusal y R len ≡ auditRefusal y R′ len
-  unfolding auditRefusal missingUnits
-  audit-unread len =
-      equal-or-not (repairRefusal y R len) 0
-      (λ (z : repairRefusal y R len ≡ 0).
-      let gone = lost-unread (repair-asked y R len z .good .mended) in
-      tests-same len _
-      ∙ (λ i. refusalBy (poolTests y R′ len ((eqb (alike .same-waiting i) (sum (λ g. count (gone i g) (contents y)) (allGroups y)), 14) ∷ []))))
-      (λ (ne : repairRefusal y R len ≡ 0 → ⊥).
-      pool-first y R len _ ∙ orElse-left _ _ ne ∙ repair-number-unread len
-      ∙ sym (pool-first y R′ len _ ∙ orElse-left _ _ (λ (z : repairRefusal y R′ len ≡ 0). ne (repair-number-unread len ∙ z))))
+  unfolding auditRefusal
+  audit-unread len = own-unread len _ _ (λ le. λ i. (eqb (alike .same-waiting i) (units-unread le i), 14) ∷ [])
 
   pub prepare-unread : (img : List ℕ) (room group content : ℕ) → lookScratch y R img room group content ≡ lookScratch y R′ img room group content
   unfolding lookScratch
@@ -202,7 +211,7 @@ module _ (y : Layout) (R R′ : Record) (alike : Alike R R′) where
   -- ---- the records that come back
 
   -- after one more failure, or unchanged where it is refused
-  alike-after : (S S′ : Record) (n n′ : ℕ) → n ≡ n′ → (n ≡ 0 → Alike S S′) → Alike (grant n S R) (grant n′ S′ R′)
+  pub alike-after : (S S′ : Record) (n n′ : ℕ) → n ≡ n′ → (n ≡ 0 → Alike S S′) → Alike (grant n S R) (grant n′ S′ R′)
   alike-after S S′ n n′ e f = subst (λ (m : ℕ). Alike (grant n S R) (grant m S′ R′)) e (same n f)
     where
       same : (n : ℕ) → (n ≡ 0 → Alike S S′) → Alike (grant n S R) (grant n S′ R′)

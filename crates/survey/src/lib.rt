@@ -107,7 +107,7 @@ pub struct Stand {
 }
 
 // Homes are worked out only once something is repaired: before, each content is at its own unit.
-fn stand_of(y: Layout, s: Shape, r: Record, to: &[u8; 64], g: u64) -> Stand
+pub fn stand_of(y: Layout, s: Shape, r: Record, to: &[u8; 64], g: u64) -> Stand
     requires { ⌜ Good y r × InTile y s (now to) g ⌝ }
     ensures { λ x. ⌜ Stands y r g x ⌝ }
 {

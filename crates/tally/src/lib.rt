@@ -1,4 +1,4 @@
-// How many contents have their home on one target, by a walk over the target's frames. Inner.
+// How many contents have their home on one target, by a walk over the target's frames, and how many are missing. Inner.
 use homes::Record;
 use numbers::Layout;
 use numbers::Shape;
@@ -6,8 +6,9 @@ use place::Unit;
 ghost use mathlib.Core.Path.{_≡_};
 ghost use Prim.Native.Nat.{_≤_, _<_};
 ghost use Rattle.lists.specs.Pick.{bit};
-ghost use Rattle.numbers.specs.Layouts.{frames};
-ghost use Rattle.pool.specs.Counting.{onTarget};
+ghost use Rattle.numbers.specs.Layouts.{Valid, frames};
+ghost use Rattle.homes.specs.Records.{Good};
+ghost use Rattle.pool.specs.Counting.{missingUnits, onTarget};
 ghost use Rattle.pool.specs.Elsewhere.{isHome};
 ghost use Rattle.tally.specs.Walking.{Walking, Here, inTileOf};
 
@@ -69,6 +70,23 @@ pub fn on_target(y: Layout, s: Shape, r: Record, target: u64) -> u64
     while tile < tiles {
         n += in_tile(y, s, r, target, tile);
         tile += 1;
+    }
+    n
+}
+
+// The missing units counted afresh: those on each failed target that is not repaired.
+pub fn missing_units(y: Layout, r: Record) -> u64
+    requires { ⌜ Valid y × Good y r ⌝ }
+    ensures { λ n. ⌜ n ≡ missingUnits y r ⌝ }
+{
+    let s = numbers::shape_of(y);
+    let failed = r.failed;
+    let k = r.k as usize;
+    let mut n: u64 = 0;
+    let mut i = r.q as usize;
+    while i < k {
+        n += on_target(y, s, r, failed[i]);
+        i += 1;
     }
     n
 }

@@ -1,13 +1,13 @@
--- `pool_count::missing_units` meets its contract. The loop keeps: the contents on the targets passed, of which the repaired ones have none.
+-- `tally::missing_units` meets its contract. The loop keeps: the contents on the targets passed, of which the repaired ones have none.
 use mathlib.Core.Path.{_≡_}
 use Prim.Native.Nat.{_*_, _-_, _≤_}
 use native.Mathlib.Omega.{arith}
 use Rattle.lists.specs.Count.{sum}
 use Rattle.homes.specs.Records.{entry}
 use Rattle.pool.specs.Counting.{onTarget}
-use Rattle.pool_count.specs.Answers.{count-begins, count-turn, count-done, can-walk, frames-few}
-use Rattle.pool_count.proofs.missing_units.Statement.{statement}
-use Rattle.pool_count.proofs.missing_units.Tie as tie
+use Rattle.tally.specs.ByTargets.{count-begins, count-turn, count-done, can-walk, frames-few}
+use Rattle.tally.proofs.missing_units.Statement.{statement}
+use Rattle.tally.proofs.missing_units.Tie as tie
 
 abbrev Inv-loop : tie.InvT-loop
 Inv-loop y r s failed k n₀ i₀ n i = (r .q ≤ i) × (i ≤ k) × (n ≤ 1441792 * i) × (n ≡ sum (λ j. onTarget y r (entry r j)) i)
