@@ -21,6 +21,7 @@ use pool_count::Counts;
 use pool_fail::Failed;
 use pool_list::ListWritten;
 use pool_look::Shown;
+use pool_plan::Drawn;
 use pool_repair::Repaired;
 use pool_text::TextRead;
 use replay_line::FirstLine;
@@ -36,6 +37,7 @@ ghost use Rattle.group.specs.Encode.{Encodes};
 ghost use Rattle.group.specs.Rebuild.{Rebuilding};
 ghost use Rattle.pool.specs.Calls.{Fails, Reads, Writes, Repairs, Prepares, Panels, Audits};
 ghost use Rattle.pool_list.specs.Ranges.{WritesList};
+ghost use Rattle.proposal.specs.Calls.{RepairsBy, ChecksPlan, Draws};
 ghost use Rattle.entries.specs.Promise.{Lookup, Insert, Delete, Listing};
 ghost use Rattle.hexline.specs.HexLine.{HexLine};
 ghost use Rattle.pool_text.specs.TextCalls.{WritesText, ReadsText};
@@ -205,6 +207,37 @@ pub extern "C" fn splicebell_repair(y: Layout, r: Record, image: &mut [u8]) -> R
     ensures { λ x. ⌜ Repairs y r (now (image .entry)) (x .refusal) (x .count) (x .rec) (now (image .exit)) ⌝ }
 {
     pool_repair::repair(y, r, image)
+}
+
+#[no_mangle]
+pub extern "C" fn splicebell_check_plan(y: Layout, r: Record, image: &[u8], plan: &[u64]) -> u64
+    ensures { λ n. ⌜ ChecksPlan y r (now (image .entry)) (now (plan .entry)) n ⌝ }
+{
+    pool_plan::check_plan(y, r, image, plan)
+}
+
+#[no_mangle]
+pub extern "C" fn splicebell_repair_by(
+    y: Layout,
+    r: Record,
+    image: &mut [u8],
+    plan: &[u64],
+) -> Repaired
+    ensures { λ x. ⌜ RepairsBy y r (now (image .entry)) (now (plan .entry)) (x .refusal) (x .count) (x .rec) (now (image .exit)) ⌝ }
+{
+    pool_plan::repair_by(y, r, image, plan)
+}
+
+#[no_mangle]
+pub extern "C" fn splicebell_draw_plan(
+    y: Layout,
+    r: Record,
+    image: &[u8],
+    plan: &mut [u64],
+) -> Drawn
+    ensures { λ x. ⌜ Draws y r (now (image .entry)) (now (plan .entry)) (x .refusal) (x .length) (now (plan .exit)) ⌝ }
+{
+    pool_plan::draw_plan(y, r, image, plan)
 }
 
 #[no_mangle]

@@ -15,6 +15,14 @@ unfoldable pub those : (ℕ → Bool) → ℕ → List ℕ
 those f zero = []
 those f (suc n) = pick (f n) (those f n ++ n ∷ []) (those f n)
 
+-- tests that agree below n
+pub those-same : (f g : ℕ → Bool) (n : ℕ) → ((k : ℕ) → k < n → f k ≡ g k) → those f n ≡ those g n
+unfolding those
+those-same f g zero e = refl
+those-same f g (suc n) e =
+    let below = those-same f g n (λ k b. e k (omega arith)) in
+    (λ i. pick (e n (le-refl (suc n)) i) (below i ++ n ∷ []) (below i))
+
 -- ---- one number more at the end, where its test holds
 
 abbrev grow : Bool → ℕ → List ℕ → List ℕ

@@ -27,9 +27,11 @@ use Rattle.pool.specs.Scribbling.{scribbled}
 use Rattle.pool.specs.ScribbleHolds.{scribble-any}
 use Rattle.pool.specs.Changes.{Written, Mended}
 use Rattle.pool.specs.Calls.{Reads, Writes, Fails, Repairs, Prepares, Shows, Panels, Audits}
+use Rattle.proposal.specs.Calls.{RepairsBy}
+use Rattle.proposal.specs.RunningLaws.{plan-count}
 use Rattle.pool_list.specs.Ranges.{laidRanges, WritesList}
 use Rattle.pool_list.specs.Kept.{WrittenByOne}
-use Rattle.promises.specs.Runs.{Event, write, writeList, fail, repair, read, look, scribble, State, start, step, run, laidOn}
+use Rattle.promises.specs.Runs.{Event, write, writeList, fail, repair, repairBy, read, look, scribble, State, start, step, run, laidOn}
 use Rattle.promises.specs.RunLaws.{started, ran}
 use Rattle.promises.specs.Demand3.{Right, demand-3, file-of-run}
 
@@ -44,6 +46,8 @@ Leaves y s (writeList ranges bytes ok) s′ =
     × (s′ .file ≡ grant n (laidRanges (s .file) ranges bytes (length ranges)) (s .file))
 Leaves y s (fail target) s′ = (n : ℕ) × Fails y (s .rec) (s .img) target n (s′ .rec) × (s′ .img ≡ s .img) × (s′ .file ≡ s .file)
 Leaves y s repair s′ = (n : ℕ) × (count : ℕ) × Repairs y (s .rec) (s .img) n count (s′ .rec) (s′ .img) × (s′ .file ≡ s .file)
+Leaves y s (repairBy plan) s′ =
+    (n : ℕ) × (count : ℕ) × RepairsBy y (s .rec) (s .img) plan n count (s′ .rec) (s′ .img) × (s′ .file ≡ s .file)
 Leaves y s (read offset size) s′ = (n : ℕ) × (out : List ℕ) × Reads y (s .rec) (s .img) offset size n out × (s′ ≡ s)
 Leaves y s (look room group content) s′ =
     (n : ℕ) × (scratch : List ℕ) × Prepares y (s .rec) (s .img) room group content n scratch
@@ -70,6 +74,7 @@ leaves-step y s (writeList ranges bytes ok) s′ p =
     }
 leaves-step y s (fail target) s′ p = λ i. record { rec = p .1 .rec i; img = p .2 i; file = p .3 i }
 leaves-step y s repair s′ p = λ i. record { rec = p .2 .rec i; img = p .2 .image i; file = p .3 i }
+leaves-step y s (repairBy plan) s′ p = λ i. record { rec = p .2 .rec i; img = p .2 .image i; file = p .3 i }
 leaves-step y s (read offset size) s′ p = p .3
 leaves-step y s (look room group content) s′ p = p .6
 leaves-step y s (scribble ink) s′ p = λ i. record { rec = p .0 i; img = p .1 i; file = p .2 i }
@@ -86,6 +91,7 @@ step-leaves y s (write offset bytes ok) = (_, record { answer = refl; image = re
 step-leaves y s (writeList ranges bytes ok) = (_, _, record { answer = refl; first = refl; image = refl }, refl, refl)
 step-leaves y s (fail target) = (_, record { answer = refl; rec = refl }, refl, refl)
 step-leaves y s repair = (_, _, record { answer = refl; pairs = refl; rec = refl; image = refl }, refl)
+step-leaves y s (repairBy plan) = (_, _, record { answer = refl; pairs = refl; rec = refl; image = refl }, refl)
 step-leaves y s (read offset size) = (_, _, record { answer = refl; bytes = refl }, refl)
 step-leaves y s (look room group content) = (_, _, record { answer = refl; bytes = refl }, _, _, record { answer = refl; bytes = refl }, refl)
 step-leaves y s (scribble ink) = (refl, refl, refl)
@@ -123,6 +129,11 @@ pub record OutcomesRight (y : Layout) (s : State) : Type 0 where
       → (x : ℕ) → x < length (s .img) → (at img′ x ≡ at (s .img) x) ⊎ Mended y (s .rec) x
   pub repair-leaves-none : (n count : ℕ) (R′ : Record) (img′ : List ℕ) → Repairs y (s .rec) (s .img) n count R′ img′
       → (g c : ℕ) → c < contents y → missing y R′ g c ≡ false
+  -- so does one by a proposed plan, and an accepted one is plain repair: it "leaves the same image and record as plain repair, whoever drew it up"
+  pub plan-changes-only : (plan : List ℕ) (n count : ℕ) (R′ : Record) (img′ : List ℕ) → RepairsBy y (s .rec) (s .img) plan n count R′ img′
+      → (x : ℕ) → x < length (s .img) → (at img′ x ≡ at (s .img) x) ⊎ Mended y (s .rec) x
+  pub plan-as-repair : (plan : List ℕ) (count : ℕ) (R′ : Record) (img′ : List ℕ) → RepairsBy y (s .rec) (s .img) plan 0 count R′ img′
+      → Repairs y (s .rec) (s .img) 0 count R′ img′
   -- an audit finds nothing, and the panel shows how many units are missing
   pub audit-finds-none : (n : ℕ) → Audits y (s .rec) (s .img) n → n ≡ 0
   pub panel-shows : (n waiting failed repaired : ℕ) → Panels y (s .rec) (s .img) n waiting failed repaired → (n ≡ 0) × (waiting ≡ missingUnits y (s .rec))
@@ -163,6 +174,16 @@ outcomes-right y s r =
           subst⁻¹ (λ (l : List ℕ). (at l x ≡ at (s .img) x) ⊎ WrittenByOne y (s .rec) ranges x) (p .image) (r .list-only ranges bytes x h);
       repair-changes-only = λ n count R′ img′ p x h. subst⁻¹ (λ (l : List ℕ). (at l x ≡ at (s .img) x) ⊎ Mended y (s .rec) x) (p .image) (r .repair-only x h);
       repair-leaves-none = λ n count R′ img′ p g c h. ap (λ (S : Record). missing y S g c) (p .rec) ∙ r .repaired g c h;
+      plan-changes-only = λ plan n count R′ img′ p x h.
+          subst⁻¹ (λ (l : List ℕ). (at l x ≡ at (s .img) x) ⊎ Mended y (s .rec) x) (p .image) (r .plan-only plan x h);
+      plan-as-repair = λ plan count R′ img′ p.
+          let same = r .planned plan (sym (p .answer)) in
+          record {
+            answer = sym (unrefused y s r);
+            pairs = p .pairs ∙ plan-count y (s .rec) (length (s .img)) plan (sym (p .answer));
+            rec = p .rec ∙ same .1;
+            image = p .image ∙ same .0;
+          };
       audit-finds-none = λ n p. p .answer ∙ audited y s r;
       panel-shows = λ n waiting failed repaired p. (p .answer ∙ unrefused y s r, p .waits ∙ panelled y s r);
     }

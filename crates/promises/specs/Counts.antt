@@ -82,7 +82,7 @@ recounted R n = record { failed = R .failed; k = R .k; q = R .q; waiting = n }
 
 -- both counts are within the bound
 module _ (y : Layout) (R : Record) (n : ℕ) (fits : R .waiting ≤ allContents y) (fits′ : n ≤ allContents y) where
-  tests-same : (len : ℕ) (rest : List (Bool × ℕ)) → refusalBy (poolTests y R len rest) ≡ refusalBy (poolTests y (recounted R n) len rest)
+  pub tests-same : (len : ℕ) (rest : List (Bool × ℕ)) → refusalBy (poolTests y R len rest) ≡ refusalBy (poolTests y (recounted R n) len rest)
   unfolding recordGood
   tests-same len rest =
       ap (λ (b : Bool). refusalBy ((validb y, 1) ∷ (eqb len (imageLength y), 2) ∷ (recordGood y R, 3) ∷ (b, 3) ∷ rest))

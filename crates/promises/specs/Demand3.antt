@@ -25,6 +25,9 @@ use Rattle.pool.specs.Holds.{read-right}
 use Rattle.pool.specs.RepairHolds.{all-repaired}
 use Rattle.pool.specs.LookHolds.{look-right}
 use Rattle.pool.specs.Changes.{Written, Mended, write-changes, repair-changes}
+use Rattle.proposal.specs.Running.{planRefusal, planImage, planRecord}
+use Rattle.proposal.specs.RunningLaws.{plan-image, plan-record}
+use Rattle.proposal.specs.PlanHolds.{plan-changes}
 use Rattle.pool_list.specs.Ranges.{listImage}
 use Rattle.pool_list.specs.Kept.{WrittenByOne, list-changes}
 use Rattle.promises.specs.Runs.{Event, State, start, run, laidOn}
@@ -46,9 +49,14 @@ pub record Right (y : Layout) (s : State) : Type 0 where
   -- and a list of writes what its writes change
   pub list-only : (ranges : List (List ℕ)) (bytes : List ℕ) (x : ℕ) → x < length (s .img)
       → (at (listImage y (s .rec) (s .img) ranges bytes) x ≡ at (s .img) x) ⊎ WrittenByOne y (s .rec) ranges x
-  -- "a repair changes only the new homes of units that were missing"
+  -- "a repair changes only the new homes of units that were missing";
   pub repair-only : (x : ℕ) → x < length (s .img) → (at (repairImage y (s .rec) (s .img)) x ≡ at (s .img) x) ⊎ Mended y (s .rec) x
-  -- and after it nothing is missing
+  -- so does one by a plan, accepted or refused; and "running an accepted plan leaves the same image and record as plain repair, whoever drew it up"
+  pub plan-only : (plan : List ℕ) (x : ℕ) → x < length (s .img) → (at (planImage y (s .rec) plan (s .img)) x ≡ at (s .img) x) ⊎ Mended y (s .rec) x
+  pub planned : (plan : List ℕ) → planRefusal y (s .rec) (length (s .img)) plan ≡ 0
+      → (planImage y (s .rec) plan (s .img) ≡ repairImage y (s .rec) (s .img))
+      × (planRecord y (s .rec) (length (s .img)) plan ≡ repairRecord y (s .rec) (length (s .img)))
+  -- and after a repair nothing is missing
   pub repaired : (g c : ℕ) → c < contents y → missing y (repairRecord y (s .rec) (length (s .img))) g c ≡ false
   -- the count of missing units is true
   pub counted : TrueCount y (s .rec)
@@ -64,6 +72,8 @@ right y v s a =
       write-only = write-changes y (s .rec) (s .img);
       list-only = λ ranges bytes. list-changes y (s .rec) ranges bytes (s .img);
       repair-only = repair-changes y (s .rec) (s .img);
+      plan-only = λ plan. plan-changes y (s .rec) plan (s .img);
+      planned = λ plan z. (plan-image y (s .rec) plan (s .img) (s .file) (a .holds) z, plan-record y (s .rec) (length (s .img)) plan z);
       repaired = λ g c h. all-repaired y (s .rec) (length (s .img)) (inside-sound y v s a) g c h;
       counted = a .counted;
       accepted = sound-passes y (s .rec) (length (s .img)) (inside-sound y v s a);

@@ -16,8 +16,10 @@ pub mod WideNumbers
 pub mod HexLine
 pub mod PoolText
 pub mod WriteList
+pub mod RepairPlan
 pub mod Replay
 pub mod Examples
 pub mod TextExamples
 pub mod ListExamples
+pub mod PlanExamples
 pub mod ReplayExamples

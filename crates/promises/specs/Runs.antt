@@ -1,6 +1,7 @@
 -- What demand 3 speaks of: events, the state of a pool, and runs. "Start with a pool of zeros and an empty failure list. Make any run of calls, each
 -- given the same layout and the record the last one returned: writes, drive failures up to K, repairs, reads, refused ones of these among them,
--- while others scribble on failed drives only." A list of writes in one call (document 02, order 2) is a call of such a run too.
+-- while others scribble on failed drives only." A list of writes in one call (document 02, order 2) and a repair by a proposed plan (order 7) are calls of
+-- such a run too.
 use mathlib.Core.List.{List, [], _∷_}
 use Prim.Native.Nat.{ℕ, suc, _<_}
 use lib.ListN.{length}
@@ -15,16 +16,19 @@ use Rattle.pool.specs.Failing.{failRecord}
 use Rattle.pool.specs.Repairing.{repairImage, repairRecord}
 use Rattle.pool.specs.Files.{written}
 use Rattle.pool.specs.Scribbling.{scribbled}
+use Rattle.proposal.specs.Running.{planImage, planRecord}
 use Rattle.pool_list.specs.Ranges.{listTests, listRefusal, listImage, laidRanges}
 
--- an event: a call with any arguments (the bytes of a write and of a list are bytes, the buffer of a read and the scratch of a look have any length),
--- or others scribbling: `ink x` is what they would put at image byte x. No event fills an image from a text (`PoolText`), nor is there
--- one for the panel or the audit (`Counts`): they hand back no record and change no byte
+-- an event: a call with any arguments (the bytes of a write and of a list are bytes, the buffer of a read and the scratch of a look have any length, a plan
+-- is any list of numbers), or others scribbling: `ink x` is what they would put at image byte x. No event fills an image from a text (`PoolText`), nor is
+-- there one for the panel or the audit (`Counts`), for the check of a plan or for our planner (`RepairPlan`): they hand back no record and change no byte
+-- of the image
 pub data Event : Type 0 where
   write : (offset : ℕ) (bytes : List ℕ) → ((i : ℕ) → i < length bytes → at bytes i < 256) → Event
   writeList : (ranges : List (List ℕ)) (bytes : List ℕ) → ((i : ℕ) → i < length bytes → at bytes i < 256) → Event
   fail : (target : ℕ) → Event
   repair : Event
+  repairBy : (plan : List ℕ) → Event
   read : (offset size : ℕ) → Event
   look : (room group content : ℕ) → Event
   scribble : (ink : ℕ → ℕ) → Event
@@ -55,6 +59,7 @@ step y s (writeList ranges bytes ok) =
     }
 step y s (fail target) = record { rec = failRecord y (s .rec) (length (s .img)) target; img = s .img; file = s .file }
 step y s repair = record { rec = repairRecord y (s .rec) (length (s .img)); img = repairImage y (s .rec) (s .img); file = s .file }
+step y s (repairBy plan) = record { rec = planRecord y (s .rec) (length (s .img)) plan; img = planImage y (s .rec) plan (s .img); file = s .file }
 step y s (read offset size) = s
 step y s (look room group content) = s
 step y s (scribble ink) = record { rec = s .rec; img = scribbled y (s .rec) (s .img) ink; file = s .file }
@@ -71,6 +76,7 @@ laidOn y file (writeList ranges bytes ok ∷ es) =
     laidOn y (grant (refusalBy (listTests y ranges (length bytes))) (laidRanges file ranges bytes (length ranges)) file) es
 laidOn y file (fail target ∷ es) = laidOn y file es
 laidOn y file (repair ∷ es) = laidOn y file es
+laidOn y file (repairBy plan ∷ es) = laidOn y file es
 laidOn y file (read offset size ∷ es) = laidOn y file es
 laidOn y file (look room group content ∷ es) = laidOn y file es
 laidOn y file (scribble ink ∷ es) = laidOn y file es
@@ -81,6 +87,7 @@ reinked ink (write offset bytes ok) = write offset bytes ok
 reinked ink (writeList ranges bytes ok) = writeList ranges bytes ok
 reinked ink (fail target) = fail target
 reinked ink repair = repair
+reinked ink (repairBy plan) = repairBy plan
 reinked ink (read offset size) = read offset size
 reinked ink (look room group content) = look room group content
 reinked ink (scribble old) = scribble ink

@@ -1,0 +1,11 @@
+pub mod Plans
+pub mod Pairs
+pub mod Running
+pub mod Drawing
+pub mod Calls
+pub mod Accepted
+pub mod RunningLaws
+pub mod LowestSources
+pub mod DrawingLaws
+pub mod PlanHolds
+pub mod PlanUnread

@@ -1,0 +1,5 @@
+pub mod Checked
+pub mod Windows
+pub mod Marks
+pub mod Entry
+pub mod Steps
