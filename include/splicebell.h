@@ -33,7 +33,7 @@ enum splicebell_refusal {
     SPLICEBELL_OUTSIDE = 4,            /* tile, group, unit, frame, target, offset or range outside,
                                         * or more than 64 ranges in a list */
     SPLICEBELL_BAD_BUFFER_LENGTH = 5,  /* a unit, group, scratch, line, text or list buffer of wrong length,
-                                        * or too short a buffer for an answer */
+                                        * or too short a buffer for an answer or a plan */
     SPLICEBELL_ALREADY_FAILED = 6,     /* the target has failed already */
     SPLICEBELL_DUD = 7,                /* K targets have failed already */
     SPLICEBELL_TOO_MANY_MISSING = 8,   /* more than K units named missing */
@@ -42,7 +42,8 @@ enum splicebell_refusal {
     SPLICEBELL_NO_SUCH_RECORD = 11,    /* no record of that key, or none that matches in all three */
     SPLICEBELL_WRONG_LINE = 12,        /* a text that is not the hex lines of a pool of this layout */
     SPLICEBELL_BAD_TRACE = 13,         /* a malformed line of a trace, or a pool too large for a replay */
-    SPLICEBELL_WRONG_COUNT = 14        /* the record's count of missing units is not the true one */
+    SPLICEBELL_WRONG_COUNT = 14,       /* the record's count of missing units is not the true one */
+    SPLICEBELL_BAD_PLAN = 15           /* a plan of repair that is not accepted */
 };
 
 /* N data, K parity and K spare units a group, P targets, U bytes a unit, T tiles, the permutations' cookie. */
@@ -126,6 +127,11 @@ typedef struct splicebell_repaired {
     uint64_t refusal, count;
     splicebell_record record;
 } splicebell_repaired;
+
+/* How many numbers of the buffer the plan takes, from the first on. */
+typedef struct splicebell_drawn {
+    uint64_t refusal, length;
+} splicebell_drawn;
 
 /* What the service panel shows: how many units await repair, how many targets have failed, and how many of
  * these have been repaired. */
@@ -275,6 +281,29 @@ splicebell_list_written splicebell_write_list(splicebell_layout y, splicebell_re
  * Refusals: 1, 2, 3. Refused: image and record are unchanged. */
 splicebell_repaired splicebell_repair(splicebell_layout y, splicebell_record r, uint8_t *image,
                                       size_t image_len);
+
+/* Whether a plan of repair is accepted. A plan is one entry after another, in any order, each of N+2 numbers:
+ * a group, one of its contents, and the N contents of that group to rebuild it from. It is accepted exactly if
+ * each missing content is named once, each of its N sources is a different present content of the same group,
+ * and nothing else is named. The image is lent for its length alone. The plan is only read.
+ * Refusals: 1, 2, 3, 15 (also where plan_len is no multiple of N+2). */
+uint64_t splicebell_check_plan(splicebell_layout y, splicebell_record r, const uint8_t *image,
+                               size_t image_len, const uint64_t *plan, size_t plan_len);
+
+/* Stores every missing content at its new home, rebuilt from the sources that its entry names, in the plan's
+ * order; answers how many there were, and the record with q = k and its count 0. On a pool that only these
+ * calls have changed from zeros any accepted plan leaves what repair leaves. The plan is only read.
+ * Refusals: as check_plan. Refused: image and record are unchanged. */
+splicebell_repaired splicebell_repair_by(splicebell_layout y, splicebell_record r, uint8_t *image,
+                                         size_t image_len, const uint64_t *plan, size_t plan_len);
+
+/* Draws up a plan that check_plan accepts: groups rising, contents rising within each, and the N lowest present
+ * contents as sources. It takes N+2 numbers for each missing content, from the first of the buffer on; the
+ * others stay. Where the record's count is true, the panel tells how many are missing; the call itself counts
+ * afresh. The image is lent for its length alone.
+ * Refusals: 1, 2, 3, 5 (plan_len is less than the plan takes). Refused: the length is 0, no number changes. */
+splicebell_drawn splicebell_draw_plan(splicebell_layout y, splicebell_record r, const uint8_t *image,
+                                      size_t image_len, uint64_t *plan, size_t plan_len);
 
 /* What the service panel shows, as the record has it: nothing is counted. The image is lent for its length
  * alone.

@@ -2,7 +2,7 @@
 
 #include <stdio.h>
 
-enum { ROOM = 64 };
+enum { ROOM = 96 };
 
 static struct {
     char what[80];

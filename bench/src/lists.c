@@ -84,13 +84,6 @@ static void write_one_by_one(void *context)
     }
 }
 
-static uint8_t *image_like(const struct pool *p)
-{
-    uint8_t *image = room(p->m.image);
-    memcpy(image, p->image, p->m.image);
-    return image;
-}
-
 /* A call for each list, a call for each range and the twin must leave the same image, and another than there was. */
 static void compare(const struct lists *ours, const struct lists *theirs)
 {

@@ -8,8 +8,12 @@
 
 const struct answerer our_calls = {
     "ours", splicebell_read, splicebell_write, splicebell_repair, splicebell_fail, splicebell_audit, splicebell_panel,
+    splicebell_check_plan, splicebell_repair_by, splicebell_draw_plan,
 };
-const struct answerer twin_calls = {"Rust twin", twin_read, twin_write, twin_repair, twin_fail, twin_audit, NULL};
+const struct answerer twin_calls = {
+    "Rust twin", twin_read, twin_write, twin_repair, twin_fail, twin_audit, NULL,
+    twin_check_plan, twin_repair_by, twin_draw_plan,
+};
 
 #ifdef WITH_BEFORE
 /* The earlier calls, by a record without the count. What they hand back has none: it is 0, as after any repair. */
@@ -49,7 +53,7 @@ static splicebell_failed fail_before(splicebell_layout y, splicebell_record r, c
 }
 
 static const struct answerer before_calls = {
-    "before", read_before, write_before, repair_before, fail_before, NULL, NULL,
+    "before", read_before, write_before, repair_before, fail_before, NULL, NULL, NULL, NULL, NULL,
 };
 #endif
 
@@ -91,6 +95,13 @@ void pool_free(struct pool *p)
     free(p->image);
     free(p->file);
     free(p->out);
+}
+
+uint8_t *image_like(const struct pool *p)
+{
+    uint8_t *image = room(p->m.image);
+    memcpy(image, p->image, p->m.image);
+    return image;
 }
 
 uint64_t failing(uint64_t i)

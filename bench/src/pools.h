@@ -14,6 +14,9 @@ struct answerer {
     splicebell_failed (*fail)(splicebell_layout, splicebell_record, const uint8_t *, size_t, uint64_t);
     uint64_t (*audit)(splicebell_layout, splicebell_record, const uint8_t *, size_t);
     splicebell_counts (*panel)(splicebell_layout, splicebell_record, const uint8_t *, size_t);
+    uint64_t (*check_plan)(splicebell_layout, splicebell_record, const uint8_t *, size_t, const uint64_t *, size_t);
+    splicebell_repaired (*repair_by)(splicebell_layout, splicebell_record, uint8_t *, size_t, const uint64_t *, size_t);
+    splicebell_drawn (*draw_plan)(splicebell_layout, splicebell_record, const uint8_t *, size_t, uint64_t *, size_t);
 };
 extern const struct answerer our_calls, twin_calls;
 
@@ -48,6 +51,9 @@ const struct pass *pass_named(const char *name);
 struct pool pool_of(uint64_t n, uint64_t k, uint64_t p, uint64_t u, uint64_t t);
 struct pool bench_pool(uint64_t tiles);
 void pool_free(struct pool *p);
+
+/* A copy of the pool's image, in room of its own. */
+uint8_t *image_like(const struct pool *p);
 
 /* The target that fails as the i-th, from 0 on. */
 uint64_t failing(uint64_t i);

@@ -18,6 +18,12 @@ splicebell_repaired twin_repair(splicebell_layout y, splicebell_record r, uint8_
 splicebell_failed twin_fail(splicebell_layout y, splicebell_record r, const uint8_t *image, size_t image_len,
                             uint64_t target);
 uint64_t twin_audit(splicebell_layout y, splicebell_record r, const uint8_t *image, size_t image_len);
+uint64_t twin_check_plan(splicebell_layout y, splicebell_record r, const uint8_t *image, size_t image_len,
+                         const uint64_t *plan, size_t plan_len);
+splicebell_repaired twin_repair_by(splicebell_layout y, splicebell_record r, uint8_t *image, size_t image_len,
+                                   const uint64_t *plan, size_t plan_len);
+splicebell_drawn twin_draw_plan(splicebell_layout y, splicebell_record r, const uint8_t *image, size_t image_len,
+                                uint64_t *plan, size_t plan_len);
 uint64_t twin_write_text(splicebell_layout y, const uint8_t *image, size_t image_len, uint8_t *text, size_t text_len);
 splicebell_text_read twin_read_text(splicebell_layout y, const uint8_t *text, size_t text_len, uint8_t *image,
                                     size_t image_len);

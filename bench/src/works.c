@@ -8,10 +8,12 @@
  *     catalogue:lookup:10000:ours     records
  *     text:write:4096:ours            bytes of a unit, of a pool of 20 tiles
  *     count:panel:8+2:24:20:ours      a call about the count of missing units: code, targets, tiles
+ *     plan:repair:8+2:20:1:ours       a call about repair by a plan, on 24 targets: code, tiles, failures
  */
 #include "catalogue.h"
 #include "coders.h"
 #include "counts.h"
+#include "plans.h"
 #include "products.h"
 #include "texts.h"
 #include "twin.h"
@@ -118,6 +120,18 @@ static int work_on_count(const char *name, long repeats)
     return repeat(call->work, &p, repeats, call->calls, call->calls);
 }
 
+static int work_on_plan(const char *name, long repeats)
+{
+    char what[40], who[20];
+    int n, k, failed, tiles;
+    must(sscanf(name, "plan:%39[^:]:%d+%d:%d:%d:%19[^:]", what, &n, &k, &tiles, &failed, who) == 6, name);
+    struct pool p = pool_of(n, k, 24, 4096, tiles);
+    p.r = failures(&p, 0, failed);
+    const struct plan_call *call = plan_call_named(what);
+    struct planned x = planned_for(&p, call->scattered, strcmp(who, "ours") == 0 ? &our_calls : &twin_calls);
+    return repeat(call->work, &x, repeats, p.r.waiting * (double)p.y.u, 1);
+}
+
 static int work_on_pairs(const char *name, long repeats)
 {
     static struct pairs p;
@@ -143,6 +157,8 @@ int do_work(const char *name, long repeats)
         return work_on_text(name, repeats);
     if (strncmp(name, "count:", 6) == 0)
         return work_on_count(name, repeats);
+    if (strncmp(name, "plan:", 5) == 0)
+        return work_on_plan(name, repeats);
     return work_on_group(name, repeats);
 }
 
@@ -197,6 +213,15 @@ static void list_counts(void)
     printf("count:fail, none failed:8+2:24:320:ours\ncount:panel:8+2:24:320:ours\n");
 }
 
+static void list_plans(void)
+{
+    for (int failed = 1; failed <= 2; failed++)
+        for (size_t i = 0; i < plan_call_count; i++) {
+            const char *what = plan_calls[i].what;
+            printf("plan:%s:8+2:20:%d:ours\nplan:%s:8+2:20:%d:Rust twin\n", what, failed, what, failed);
+        }
+}
+
 int list_works(void)
 {
     printf("product:ours\nproduct:shifting\nproduct:Rust twin\n");
@@ -207,5 +232,6 @@ int list_works(void)
     for (int u = 512; u <= 4096; u *= 8)
         printf("text:write:%d:ours\ntext:write:%d:Rust twin\ntext:read:%d:ours\ntext:read:%d:Rust twin\n", u, u, u, u);
     list_counts();
+    list_plans();
     return 0;
 }

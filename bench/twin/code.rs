@@ -71,21 +71,39 @@ pub fn missing_data(n: usize, held: &[Option<&[u8]>], length: usize) -> Vec<Vec<
         .collect()
 }
 
+/// Parity unit i, of data some of which are lost and were rebuilt, lowest first.
+fn lost_parity(
+    i: usize,
+    n: usize,
+    held: &[Option<&[u8]>],
+    lost_data: &[Vec<u8>],
+    length: usize,
+) -> Vec<u8> {
+    let mut next_lost = lost_data.iter();
+    let data = held[..n].iter().map(|h| h.unwrap_or_else(|| next_lost.next().expect("rebuilt")));
+    let mut unit = vec![0; length];
+    parity_of(i, data, &mut unit);
+    unit
+}
+
 /// What the missing contents hold, lowest first: the data, then the parity of data that are whole by then.
 pub fn missing_contents(n: usize, held: &[Option<&[u8]>], length: usize) -> Vec<Vec<u8>> {
-    let lost_data = missing_data(n, held, length);
-    let mut next_lost = lost_data.iter();
-    let data: Vec<&[u8]> =
-        held[..n].iter().map(|h| h.unwrap_or_else(|| next_lost.next().expect("rebuilt"))).collect();
-    let lost_parity: Vec<Vec<u8>> = (0..held.len() - n)
-        .filter(|&i| held[n + i].is_none())
-        .map(|i| {
-            let mut unit = vec![0; length];
-            parity_of(i, data.iter().copied(), &mut unit);
-            unit
-        })
-        .collect();
-    lost_data.into_iter().chain(lost_parity).collect()
+    let mut lost = missing_data(n, held, length);
+    let data = lost.len();
+    for i in (0..held.len() - n).filter(|&i| held[n + i].is_none()) {
+        lost.push(lost_parity(i, n, held, &lost[..data], length));
+    }
+    lost
+}
+
+/// What one missing content holds.
+pub fn missing_content(n: usize, held: &[Option<&[u8]>], c: usize, length: usize) -> Vec<u8> {
+    let mut lost_data = missing_data(n, held, length);
+    if c < n {
+        lost_data.swap_remove(held[..c].iter().filter(|h| h.is_none()).count())
+    } else {
+        lost_parity(c - n, n, held, &lost_data, length)
+    }
 }
 
 pub fn rebuild(n: usize, u: usize, missing: &[u64], group: &mut [u8]) {

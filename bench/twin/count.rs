@@ -28,9 +28,13 @@ pub fn fail(layout: Layout, record: Record, target: u64) -> Record {
     Record { failed, k: record.k + 1, waiting, ..record }
 }
 
-/// Whether the record's count is that of the missing units, which lie on the targets that are not repaired.
-pub fn is_true(layout: Layout, record: &Record) -> bool {
-    let shape = Shape::of(layout);
+/// The missing units, which lie on the targets that are not repaired.
+pub fn missing_units(shape: &Shape, record: &Record) -> u64 {
     let broken = &record.failed[record.q as usize..record.k as usize];
-    record.waiting == broken.iter().map(|&target| on_target(&shape, record, target)).sum::<u64>()
+    broken.iter().map(|&target| on_target(shape, record, target)).sum()
+}
+
+/// Whether the record's count is that of the missing units.
+pub fn is_true(layout: Layout, record: &Record) -> bool {
+    record.waiting == missing_units(&Shape::of(layout), record)
 }

@@ -39,9 +39,14 @@ impl Shape {
         (self.rows * self.layout.t) as usize
     }
 
+    /// Of the pool.
+    pub fn groups(&self) -> u64 {
+        self.layout.t * self.groups_in_tile
+    }
+
     /// Bytes of the file.
     pub fn capacity(&self) -> u64 {
-        self.layout.t * self.groups_in_tile * self.layout.n * self.layout.u
+        self.groups() * self.layout.n * self.layout.u
     }
 
     /// Entry c is the target of column c.

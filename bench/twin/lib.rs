@@ -1,6 +1,6 @@
 //! A plain Rust twin of the calls that are timed, to compare with: the same layout, the same bytes, no proofs and no
-//! tests of what is passed, but for the text that is read, the list that is written, the count that is audited and the
-//! catalogue. The C side is declared in `src/twin.h`, with the types of `splicebell.h`.
+//! tests of what is passed, but for the text that is read, the list that is written, the count that is audited, plans
+//! and the catalogue. The C side is declared in `src/twin.h`, with the types of `splicebell.h`.
 
 mod catalogue;
 mod code;
@@ -9,6 +9,7 @@ mod field;
 mod homes;
 mod layout;
 mod list;
+mod plan;
 mod pool;
 mod text;
 
@@ -40,6 +41,12 @@ pub struct Failed {
 }
 
 #[repr(C)]
+pub struct Drawn {
+    refusal: u64,
+    length: u64,
+}
+
+#[repr(C)]
 pub struct TextRead {
     refusal: u64,
     line: u64,
@@ -61,8 +68,8 @@ pub unsafe extern "C" fn twin_products(a: *const u8, b: *const u8, out: *mut u8,
     }
 }
 
-/// Answers 0, as every call here but the reader of a text, the writer of a list, the audit and the catalogue's: what is
-/// passed is taken to be sound.
+/// Answers 0, as every call here but the reader of a text, the writer of a list, the audit, those of plans and the
+/// catalogue's: what is passed is taken to be sound.
 ///
 /// # Safety
 /// `group` leads to `length` bytes that nothing else touches.
@@ -167,7 +174,8 @@ pub unsafe extern "C" fn twin_repair(
     Repaired { refusal: 0, count, record: Record { q: r.k, waiting: 0, ..r } }
 }
 
-/// The image is lent for its length alone, here and in the audit, and the twin does not test that.
+/// The image is lent for its length alone, here, in the audit and where a plan is checked or drawn, and the twin does
+/// not test that.
 #[no_mangle]
 pub extern "C" fn twin_fail(
     y: Layout,
@@ -185,6 +193,60 @@ pub extern "C" fn twin_audit(y: Layout, r: Record, _image: *const u8, _image_len
         0
     } else {
         14
+    }
+}
+
+/// # Safety
+/// `plan` leads to `plan_length` numbers.
+#[no_mangle]
+pub unsafe extern "C" fn twin_check_plan(
+    y: Layout,
+    r: Record,
+    _image: *const u8,
+    _image_length: usize,
+    plan: *const u64,
+    plan_length: usize,
+) -> u64 {
+    if plan::is_good(y, &r, from_raw_parts(plan, plan_length)) {
+        0
+    } else {
+        15
+    }
+}
+
+/// # Safety
+/// The pointers lead to as many elements as their lengths say; nothing else touches `image`.
+#[no_mangle]
+pub unsafe extern "C" fn twin_repair_by(
+    y: Layout,
+    r: Record,
+    image: *mut u8,
+    image_length: usize,
+    plan: *const u64,
+    plan_length: usize,
+) -> Repaired {
+    let plan = from_raw_parts(plan, plan_length);
+    if !plan::is_good(y, &r, plan) {
+        return Repaired { refusal: 15, count: 0, record: r };
+    }
+    let count = plan::run(y, &r, from_raw_parts_mut(image, image_length), plan);
+    Repaired { refusal: 0, count, record: Record { q: r.k, waiting: 0, ..r } }
+}
+
+/// # Safety
+/// `plan` leads to `plan_length` numbers that nothing else touches.
+#[no_mangle]
+pub unsafe extern "C" fn twin_draw_plan(
+    y: Layout,
+    r: Record,
+    _image: *const u8,
+    _image_length: usize,
+    plan: *mut u64,
+    plan_length: usize,
+) -> Drawn {
+    match plan::draw(y, &r, from_raw_parts_mut(plan, plan_length)) {
+        Some(length) => Drawn { refusal: 0, length: length as u64 },
+        None => Drawn { refusal: 5, length: 0 },
     }
 }
 

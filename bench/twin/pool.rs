@@ -137,7 +137,7 @@ pub fn repair(layout: Layout, record: &Record, image: &mut [u8]) -> u64 {
     let shape = Shape::of(layout);
     let mut tiles = Tiles::new(&shape);
     let mut count = 0;
-    for g in 0..layout.t * shape.groups_in_tile {
+    for g in 0..shape.groups() {
         let group = tiles.group(record, g);
         if !group.missing.contains(&true) {
             continue;

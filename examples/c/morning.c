@@ -13,12 +13,20 @@ static const char second[] = "Mr Zorn: two skis";
 static const char weight[] = "7.4 kg";
 static const char tag[] = "tag 0217";
 enum { SECOND_AT = 24, WEIGHT_AT = 48, TAG_AT = 56, TOO_FAR = 76, LOST = 2 };
+enum { FRAMES = 4, ENTRY = 2 + 2 }; /* of a drive; the numbers of an entry of a plan */
 
 typedef struct pool {
     splicebell_record record;
     uint8_t *image;
     size_t length;
 } pool;
+
+/* A plan of repair. An entry has a group, the lost unit of it, and the two units to rebuild that from. No drive loses
+ * more units than it has frames. */
+typedef struct plan {
+    uint64_t numbers[FRAMES * ENTRY];
+    size_t length;
+} plan;
 
 static void accepted(uint64_t refusal) {
     if (refusal != SPLICEBELL_ACCEPTED) {
@@ -90,6 +98,43 @@ static void end_session(pool p) {
            WEIGHT_AT, tag, TAG_AT);
 }
 
+/* The row controller takes the groups in an order of its own: our plan with its last entry first. */
+static plan propose(pool p) {
+    plan ours, other = {.length = 0};
+    splicebell_drawn drawn = splicebell_draw_plan(row, p.record, p.image, p.length, ours.numbers, FRAMES * ENTRY);
+    accepted(drawn.refusal);
+    printf("The row controller plans the repair:\n");
+    for (uint64_t left = drawn.length; left > 0; left -= ENTRY) {
+        const uint64_t *entry = ours.numbers + left - ENTRY;
+        memcpy(other.numbers + other.length, entry, ENTRY * sizeof *entry);
+        other.length += ENTRY;
+        printf("of group %" PRIu64 " unit %" PRIu64 ", from the units %" PRIu64 " and %" PRIu64 "\n", entry[0],
+               entry[1], entry[2], entry[3]);
+    }
+    return other;
+}
+
+/* A plan that would read a lost unit is refused; an accepted one leaves what plain repair leaves. */
+static splicebell_repaired repair_by(pool p, plan proposed) {
+    plan wrong = proposed;
+    wrong.numbers[2] = wrong.numbers[1];
+    printf("With the lost unit as its own source, that is refused with %" PRIu64 ".\n",
+           splicebell_check_plan(row, p.record, p.image, p.length, wrong.numbers, wrong.length));
+    accepted(splicebell_check_plan(row, p.record, p.image, p.length, proposed.numbers, proposed.length));
+    uint8_t *copy = malloc(p.length);
+    if (copy == NULL) {
+        exit(EXIT_FAILURE);
+    }
+    memcpy(copy, p.image, p.length);
+    accepted(splicebell_repair(row, p.record, copy, p.length).refusal);
+    splicebell_repaired repaired =
+        splicebell_repair_by(row, p.record, p.image, p.length, proposed.numbers, proposed.length);
+    printf("As it is, it leaves %s repair without a plan.\n",
+           memcmp(copy, p.image, p.length) == 0 ? "the same bytes as" : "other bytes than");
+    free(copy);
+    return repaired;
+}
+
 /* Field staff mail the row as text; the desk takes it back, and refuses a copy that was spoilt. */
 static void mail(pool p, uint64_t frames) {
     size_t line = 11 + 2 * row.u, lines = row.p * frames, length = lines * line;
@@ -131,7 +176,7 @@ int main(void) {
     show(p, SECOND_AT, strlen(second));
     show(p, TAG_AT, strlen(tag));
 
-    splicebell_repaired repaired = splicebell_repair(row, p.record, p.image, p.length);
+    splicebell_repaired repaired = repair_by(p, propose(p));
     accepted(repaired.refusal);
     p.record = repaired.record;
     printf("The row is repaired: %" PRIu64 " units were missing.\n", repaired.count);

@@ -114,6 +114,31 @@ pub fn repair(y: splicebell_layout, r: splicebell_record, image: &mut [u8]) -> s
     unsafe { splicebell_repair(y, r, image.as_mut_ptr(), image.len()) }
 }
 
+pub fn check_plan(y: splicebell_layout, r: splicebell_record, image: &[u8], plan: &[u64]) -> u64 {
+    let (entries, length) = (plan.as_ptr(), plan.len());
+    unsafe { splicebell_check_plan(y, r, image.as_ptr(), image.len(), entries, length) }
+}
+
+pub fn repair_by(
+    y: splicebell_layout,
+    r: splicebell_record,
+    image: &mut [u8],
+    plan: &[u64],
+) -> splicebell_repaired {
+    let (into, room) = (image.as_mut_ptr(), image.len());
+    unsafe { splicebell_repair_by(y, r, into, room, plan.as_ptr(), plan.len()) }
+}
+
+pub fn draw_plan(
+    y: splicebell_layout,
+    r: splicebell_record,
+    image: &[u8],
+    plan: &mut [u64],
+) -> splicebell_drawn {
+    let (into, room) = (plan.as_mut_ptr(), plan.len());
+    unsafe { splicebell_draw_plan(y, r, image.as_ptr(), image.len(), into, room) }
+}
+
 pub fn panel(y: splicebell_layout, r: splicebell_record, image: &[u8]) -> splicebell_counts {
     unsafe { splicebell_panel(y, r, image.as_ptr(), image.len()) }
 }

@@ -199,6 +199,130 @@ impl<'a> Pool<'a> {
         answered(answer.refusal, answer.count)
     }
 
+    /// Tests a plan of repair: [`Refusal::BadPlan`](crate::Refusal::BadPlan) where it is not accepted.
+    ///
+    /// A plan is one entry after another, in any order, each of N+2 numbers: a group, one of its contents, and
+    /// the N contents of that group to rebuild it from. It is accepted exactly if each missing content is named
+    /// once, each of its N sources is a different present content of the same group, and nothing else is named.
+    ///
+    /// ```
+    /// use splicebell::{Layout, Pool, Refusal};
+    ///
+    /// let layout = Layout { n: 1, k: 2, p: 5, u: 4, t: 1, cookie: 0 };
+    /// let mut image = [0; 20];
+    /// let mut pool = Pool::new(layout, &mut image);
+    /// pool.fail(layout.place(0, 0)?.target)?;
+    /// pool.check_plan(&[0, 0, 1])?;
+    /// pool.check_plan(&[0, 0, 2])?;
+    /// let from_itself = [0, 0, 0];
+    /// assert_eq!(pool.check_plan(&from_itself), Err(Refusal::BadPlan));
+    /// let a_present_content_too = [0, 0, 1, 0, 2, 1];
+    /// assert_eq!(pool.check_plan(&a_present_content_too), Err(Refusal::BadPlan));
+    /// # Ok::<(), Refusal>(())
+    /// ```
+    pub fn check_plan(&self, plan: &[u64]) -> Result<()> {
+        let (y, r) = self.to_raw();
+        answered(calls::check_plan(y, r, self.image, plan), ())
+    }
+
+    /// Stores every missing content at its new home, rebuilt from the sources that its entry names, in the
+    /// plan's order; answers how many there were. The record's count becomes 0. On a pool that only these calls
+    /// have changed from zeros any plan that [`Pool::check_plan`] accepts leaves what [`Pool::repair`] leaves.
+    /// Another plan is refused, and changes nothing.
+    ///
+    /// ```
+    /// use splicebell::{Layout, Pool, Refusal};
+    ///
+    /// let layout = Layout { n: 1, k: 2, p: 5, u: 4, t: 1, cookie: 0 };
+    /// let mut image = [0; 20];
+    /// let mut pool = Pool::new(layout, &mut image);
+    /// pool.write(0, b"bags")?;
+    /// pool.fail(layout.place(0, 0)?.target)?;
+    /// let nothing_named = [];
+    /// assert_eq!(pool.repair_by(&nothing_named), Err(Refusal::BadPlan));
+    /// assert_eq!(pool.panel()?.waiting, 1);
+    /// assert_eq!(pool.repair_by(&[0, 0, 2])?, 1);
+    /// assert_eq!(pool.panel()?.waiting, 0);
+    /// assert_eq!(pool.repair_by(&nothing_named)?, 0);
+    /// # Ok::<(), Refusal>(())
+    /// ```
+    pub fn repair_by(&mut self, plan: &[u64]) -> Result<u64> {
+        let (y, r) = self.to_raw();
+        let answer = calls::repair_by(y, r, self.image, plan);
+        self.record = Record::from_raw(answer.record);
+        answered(answer.refusal, answer.count)
+    }
+
+    /// Draws up a plan that [`Pool::check_plan`] accepts, and answers how many numbers it takes, from the first
+    /// of `plan` on; the others stay. Groups rise, contents rise within each, and the sources are the N lowest
+    /// present contents. Refused with 5 where `plan` has fewer than N+2 numbers for each missing content; then,
+    /// as after any refusal, no number has changed. [`Pool::drawn_plan`] makes a vector of the right length.
+    ///
+    /// ```
+    /// use splicebell::{Layout, Pool, Refusal};
+    ///
+    /// let layout = Layout { n: 1, k: 2, p: 5, u: 4, t: 1, cookie: 0 };
+    /// let mut image = [0; 20];
+    /// let mut pool = Pool::new(layout, &mut image);
+    /// pool.fail(layout.place(0, 0)?.target)?;
+    /// let mut plan = [9; 4];
+    /// assert_eq!(pool.draw_plan(&mut plan)?, 3);
+    /// assert_eq!(plan, [0, 0, 1, 9]);
+    /// let mut too_short = [9; 2];
+    /// assert_eq!(pool.draw_plan(&mut too_short), Err(Refusal::BadBufferLength));
+    /// assert_eq!(too_short, [9; 2]);
+    /// # Ok::<(), Refusal>(())
+    /// ```
+    pub fn draw_plan(&self, plan: &mut [u64]) -> Result<usize> {
+        let (y, r) = self.to_raw();
+        let answer = calls::draw_plan(y, r, self.image, plan);
+        answered(answer.refusal, answer.length as usize)
+    }
+
+    /// The plan that [`Pool::draw_plan`] draws up, to be changed or taken as it is.
+    ///
+    /// Its length follows from the missing units, which are counted afresh: that takes as long as
+    /// [`Pool::audit`], and a false count in the record, by which a vector would be too short or far too long,
+    /// makes no difference.
+    ///
+    /// ```
+    /// use splicebell::{Layout, Pool, Refusal};
+    ///
+    /// let layout = Layout { n: 1, k: 2, p: 5, u: 4, t: 1, cookie: 0 };
+    /// let mut image = [0; 20];
+    /// let mut pool = Pool::new(layout, &mut image);
+    /// for content in [0, 1] {
+    ///     pool.fail(layout.place(0, content)?.target)?;
+    /// }
+    /// let mut plan = pool.drawn_plan()?;
+    /// assert_eq!(plan, [0, 0, 2, 0, 1, 2]);
+    /// plan.rotate_left(3);
+    /// assert_eq!(pool.repair_by(&plan)?, 2);
+    /// assert_eq!(pool.drawn_plan()?, []);
+    /// let too_small = Pool::new(layout, &mut image[1..]).drawn_plan();
+    /// assert_eq!(too_small, Err(Refusal::BadImageLength));
+    /// # Ok::<(), Refusal>(())
+    /// ```
+    pub fn drawn_plan(&self) -> Result<Vec<u64>> {
+        let entries = self.missing_units()?;
+        let mut plan = vec![0; (entries * (self.layout.n + 2)) as usize];
+        self.draw_plan(&mut plan)?;
+        Ok(plan)
+    }
+
+    /// The missing units counted afresh: the targets that are not repaired fail again, one after the other.
+    fn missing_units(&self) -> Result<u64> {
+        // A bad record is refused first: its numbers may lead past its entries.
+        self.panel()?;
+        let (y, kept) = self.to_raw();
+        let mut r = raw::splicebell_record { k: kept.q, waiting: 0, ..kept };
+        for target in &kept.failed[kept.q as usize..kept.k as usize] {
+            let answer = calls::fail(y, r, self.image, *target);
+            r = answered(answer.refusal, answer.record)?;
+        }
+        Ok(r.waiting)
+    }
+
     /// What the service panel shows, as the record has it: nothing is counted, so it takes as long on any pool.
     ///
     /// ```

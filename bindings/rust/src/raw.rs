@@ -143,6 +143,13 @@ pub struct splicebell_repaired {
 
 #[repr(C)]
 #[derive(Clone, Copy, Debug, Default, PartialEq, Eq)]
+pub struct splicebell_drawn {
+    pub refusal: u64,
+    pub length: u64,
+}
+
+#[repr(C)]
+#[derive(Clone, Copy, Debug, Default, PartialEq, Eq)]
 pub struct splicebell_counts {
     pub refusal: u64,
     pub waiting: u64,
@@ -285,6 +292,30 @@ extern "C" {
         image: *mut u8,
         image_len: usize,
     ) -> splicebell_repaired;
+    pub fn splicebell_check_plan(
+        y: splicebell_layout,
+        r: splicebell_record,
+        image: *const u8,
+        image_len: usize,
+        plan: *const u64,
+        plan_len: usize,
+    ) -> u64;
+    pub fn splicebell_repair_by(
+        y: splicebell_layout,
+        r: splicebell_record,
+        image: *mut u8,
+        image_len: usize,
+        plan: *const u64,
+        plan_len: usize,
+    ) -> splicebell_repaired;
+    pub fn splicebell_draw_plan(
+        y: splicebell_layout,
+        r: splicebell_record,
+        image: *const u8,
+        image_len: usize,
+        plan: *mut u64,
+        plan_len: usize,
+    ) -> splicebell_drawn;
     pub fn splicebell_panel(
         y: splicebell_layout,
         r: splicebell_record,

@@ -24,7 +24,7 @@ pub enum Refusal {
     /// [`ListRefusal`] tells the range.
     Outside = 4,
     /// 5: a unit, group, scratch, line, text or list buffer not of its exact length, or too short a buffer for
-    /// an answer.
+    /// an answer or a plan.
     BadBufferLength = 5,
     /// 6: target already failed.
     AlreadyFailed = 6,
@@ -44,6 +44,8 @@ pub enum Refusal {
     BadTrace = 13,
     /// 14: the record's count of missing units is not the true one.
     WrongCount = 14,
+    /// 15: a plan of repair that is not accepted. [`Pool::check_plan`](crate::Pool::check_plan) tells when one is.
+    BadPlan = 15,
 }
 
 /// What a call answers: its value, or why it was refused.
@@ -51,7 +53,7 @@ pub type Result<T> = std::result::Result<T, Refusal>;
 
 impl Refusal {
     /// Every refusal, in the order of its number.
-    pub const ALL: [Refusal; 14] = [
+    pub const ALL: [Refusal; 15] = [
         Refusal::BadLayout,
         Refusal::BadImageLength,
         Refusal::BadRecord,
@@ -66,14 +68,15 @@ impl Refusal {
         Refusal::WrongLine,
         Refusal::BadTrace,
         Refusal::WrongCount,
+        Refusal::BadPlan,
     ];
 
-    /// The number of this refusal, 1 to 14.
+    /// The number of this refusal, 1 to 15.
     pub fn number(self) -> u64 {
         self as u64
     }
 
-    /// The refusal of a number; none for 0, which means accepted, and for numbers above 14.
+    /// The refusal of a number; none for 0, which means accepted, and for numbers above 15.
     pub fn from_number(number: u64) -> Option<Refusal> {
         Refusal::ALL.into_iter().find(|refusal| refusal.number() == number)
     }
@@ -103,6 +106,7 @@ impl Refusal {
                 "a malformed line of a trace, or a pool too large for a replay"
             }
             Refusal::WrongCount => "the record's count of missing units is not the true one",
+            Refusal::BadPlan => "a plan of repair that is not accepted",
         }
     }
 }
@@ -230,8 +234,8 @@ pub(crate) fn answered<T>(number: u64, value: T) -> Result<T> {
 #[cfg(test)]
 mod tests {
     #[test]
-    #[should_panic(expected = "the library answered 15")]
+    #[should_panic(expected = "the library answered 16")]
     fn a_number_outside_the_table_stops_the_program() {
-        let _ = super::answered(15, ());
+        let _ = super::answered(16, ());
     }
 }

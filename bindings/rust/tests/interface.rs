@@ -432,6 +432,198 @@ fn a_refused_list_says_why() {
     assert!(told(Refusal::Outside, Some(64)).starts_with("range 64: tile, group, unit, frame"));
 }
 
+/// The numbers of an entry of a plan: group, content, N sources.
+const ENTRY: usize = 2 + 2;
+
+/// The file written on, with a drive dead that was repaired and one that was not.
+fn with_a_dead_drive_after_a_repair() -> Result<(Vec<u8>, Record), Refusal> {
+    let mut image = blank_image();
+    let mut pool = failed_after_a_repair(&mut image)?;
+    pool.write(0, &photograph(LAYOUT.measure()?.capacity as usize))?;
+    scribble(&mut pool, 1);
+    let record = pool.record();
+    Ok((image, record))
+}
+
+/// Our plan as it must be while nothing is repaired, told by the places of contents alone.
+fn plan_by_places(dead: &[u64]) -> Result<Vec<u64>, Refusal> {
+    let contents = 0..LAYOUT.n + LAYOUT.k;
+    let mut plan = Vec::new();
+    for group in 0..LAYOUT.measure()?.groups {
+        let target = |content| LAYOUT.place(group, content).map(|place| place.target);
+        let targets = contents.clone().map(target).collect::<Result<Vec<_>, _>>()?;
+        let missing = |content: &u64| dead.contains(&targets[*content as usize]);
+        for content in contents.clone().filter(missing) {
+            let present = contents.clone().filter(|content| !missing(content));
+            plan.extend([group, content].into_iter().chain(present.take(LAYOUT.n as usize)));
+        }
+    }
+    Ok(plan)
+}
+
+/// The same entries, the last one first, each from the highest present contents.
+fn plan_from_the_highest(ours: &[u64]) -> Vec<u64> {
+    let missing = |group, content| ours.chunks(ENTRY).any(|entry| entry[..2] == [group, content]);
+    let highest = |entry: &[u64]| {
+        let (group, content) = (entry[0], entry[1]);
+        let present = (0..LAYOUT.n + LAYOUT.k).rev().filter(move |c| !missing(group, *c));
+        [group, content].into_iter().chain(present.take(LAYOUT.n as usize)).collect::<Vec<_>>()
+    };
+    ours.chunks(ENTRY).rev().flat_map(highest).collect()
+}
+
+#[test]
+fn any_accepted_plan_leaves_what_repair_leaves() -> Result<(), Refusal> {
+    for (image, record) in [with_dead_drives()?, with_a_dead_drive_after_a_repair()?] {
+        let (mut image, mut same_image) = (image.clone(), image);
+        let before = image.clone();
+        let mut repaired = Pool::with_record(LAYOUT, record, &mut same_image);
+        assert_eq!(repaired.repair(), Ok(record.waiting));
+        let ours = Pool::with_record(LAYOUT, record, &mut image).drawn_plan()?;
+        let other = plan_from_the_highest(&ours);
+        assert_ne!(ours, other);
+        for plan in [ours, other] {
+            image.copy_from_slice(&before);
+            let mut pool = Pool::with_record(LAYOUT, record, &mut image);
+            pool.check_plan(&plan)?;
+            assert_eq!((pool.image(), pool.record()), (&before[..], record));
+            assert_eq!(pool.repair_by(&plan), Ok(record.waiting));
+            assert_eq!((pool.image(), pool.record()), (repaired.image(), repaired.record()));
+        }
+    }
+    Ok(())
+}
+
+/// Each is our plan with one fault.
+fn wrong_plans(ours: &[u64]) -> Result<Vec<Vec<u64>>, Refusal> {
+    let (first, rest) = ours.split_at(ENTRY);
+    let but_the_last = &ours[..ours.len() - ENTRY];
+    let mut wrong = vec![
+        vec![],
+        rest.to_vec(),
+        ours[1..].to_vec(),
+        [ours, &[0]].concat(),
+        [ours, first].concat(),
+        [first, but_the_last].concat(),
+    ];
+    let (groups, contents) = (LAYOUT.measure()?.groups, LAYOUT.n + LAYOUT.k);
+    let (missing, source) = (first[1], first[2]);
+    let changes = [
+        (0, groups),
+        (0, u64::MAX),
+        (1, contents),
+        (1, u64::MAX),
+        (1, source),
+        (2, contents),
+        (2, u64::MAX),
+        (2, missing),
+        (3, source),
+    ];
+    let changed = |(at, number): (usize, u64)| {
+        let mut plan = ours.to_vec();
+        plan[at] = number;
+        plan
+    };
+    wrong.extend(changes.map(changed));
+    Ok(wrong)
+}
+
+#[test]
+fn another_plan_is_refused_and_changes_nothing() -> Result<(), Refusal> {
+    for (mut image, record) in [with_dead_drives()?, with_a_dead_drive_after_a_repair()?] {
+        let before = image.clone();
+        let mut pool = Pool::with_record(LAYOUT, record, &mut image);
+        for plan in wrong_plans(&pool.drawn_plan()?)? {
+            assert_eq!(pool.check_plan(&plan), Err(Refusal::BadPlan), "{plan:?}");
+            assert_eq!(pool.repair_by(&plan), Err(Refusal::BadPlan), "{plan:?}");
+            assert_eq!((pool.image(), pool.record()), (&before[..], record));
+        }
+    }
+    Ok(())
+}
+
+#[test]
+fn a_plan_is_drawn_at_the_beginning_of_its_buffer_or_not_at_all() -> Result<(), Refusal> {
+    let (mut image, record) = with_dead_drives()?;
+    let before = image.clone();
+    let pool = Pool::with_record(LAYOUT, record, &mut image);
+    let plan = plan_by_places(&[5, 1])?;
+    assert_eq!(plan.len() as u64, ENTRY as u64 * pool.panel()?.waiting);
+    assert_eq!(pool.drawn_plan(), Ok(plan.clone()));
+    let mut longer = vec![9; plan.len() + 5];
+    assert_eq!(pool.draw_plan(&mut longer), Ok(plan.len()));
+    assert_eq!(longer, [&plan[..], &[9; 5]].concat());
+    let mut too_short = vec![9; plan.len() - 1];
+    assert_eq!(pool.draw_plan(&mut too_short), Err(Refusal::BadBufferLength));
+    assert!(too_short.iter().all(|number| *number == 9));
+    assert_eq!(image, before);
+    Ok(())
+}
+
+#[test]
+fn a_false_count_changes_no_plan() -> Result<(), Refusal> {
+    for (image, record) in [with_dead_drives()?, with_a_dead_drive_after_a_repair()?] {
+        for count in [0, record.waiting - 1, record.waiting + 1, ALL_CONTENTS] {
+            let (mut image, mut same_image) = (image.clone(), image.clone());
+            let mut truly = Pool::with_record(LAYOUT, record, &mut image);
+            let recounted = Record { waiting: count, ..record };
+            let mut falsely = Pool::with_record(LAYOUT, recounted, &mut same_image);
+            let plan = truly.drawn_plan()?;
+            assert_eq!(falsely.drawn_plan()?, plan);
+            let mut too_short = vec![0; plan.len() - 1];
+            assert_eq!(falsely.draw_plan(&mut too_short), Err(Refusal::BadBufferLength));
+            falsely.check_plan(&plan)?;
+            assert_eq!(falsely.repair_by(&plan), truly.repair_by(&plan));
+            assert_eq!(falsely.record(), truly.record());
+            assert_eq!(falsely.image(), truly.image());
+        }
+    }
+    Ok(())
+}
+
+#[test]
+fn where_nothing_is_missing_the_plan_is_empty() -> Result<(), Refusal> {
+    let (mut image, record) = with_dead_drives()?;
+    let mut pool = Pool::with_record(LAYOUT, record, &mut image);
+    let done = pool.drawn_plan()?;
+    pool.repair_by(&done)?;
+    let (left, repaired) = (pool.image().to_vec(), pool.record());
+    assert_eq!(repaired, Record { failed: [5, 1, 0], k: 2, q: 2, waiting: 0 });
+    assert_eq!(pool.repair_by(&done), Err(Refusal::BadPlan));
+    assert_eq!(pool.draw_plan(&mut []), Ok(0));
+    assert_eq!(pool.drawn_plan(), Ok(vec![]));
+    pool.check_plan(&[])?;
+    assert_eq!(pool.repair_by(&[]), Ok(0));
+    assert_eq!((pool.image(), pool.record()), (&left[..], repaired));
+    Ok(())
+}
+
+#[test]
+fn a_bad_pool_is_refused_before_its_plan() {
+    let mut image = blank_image();
+    image.fill(1);
+    let length = image.len();
+    let mut refused = |layout, record, bytes: usize| {
+        let mut pool = Pool::with_record(layout, record, &mut image[..bytes]);
+        let mut plan = [9; 1];
+        let drawn = pool.draw_plan(&mut plan).err();
+        assert_eq!((plan, pool.drawn_plan().err()), ([9; 1], drawn));
+        assert_eq!((pool.check_plan(&plan).err(), pool.repair_by(&plan).err()), (drawn, drawn));
+        assert_eq!(pool.record(), record);
+        assert!(pool.image().iter().all(|byte| *byte == 1));
+        drawn
+    };
+    let unfailed = Record { q: 1, ..Record::default() };
+    let twice = Record { failed: [4; 3], k: 2, q: 1, waiting: 5 };
+    let without_end = Record { k: u64::MAX, ..Record::default() };
+    let bad = Layout { p: 65, ..LAYOUT };
+    assert_eq!(refused(bad, unfailed, 0), Some(Refusal::BadLayout));
+    assert_eq!(refused(LAYOUT, unfailed, length - 1), Some(Refusal::BadImageLength));
+    for record in [unfailed, twice, without_end, waiting(ALL_CONTENTS + 1)] {
+        assert_eq!(refused(LAYOUT, record, length), Some(Refusal::BadRecord));
+    }
+}
+
 #[test]
 fn a_replayed_day_leaves_what_its_calls_leave() -> Result<(), Refusal> {
     let day = "02 02 07 0003 000002 000000000000000b\n\
@@ -648,13 +840,20 @@ fn a_bad_catalogue_is_refused_and_kept() {
     assert_eq!((catalogue.count(), catalogue.slots()), (2, &falling[..]));
 }
 
-/// docs/ABI.md states what the deepest calls take: a write, a list of writes, a replayed write.
+const LARGEST: Layout = Layout { n: 16, k: 3, p: 22, u: 4096, t: 1, cookie: 5 };
+
+fn in_a_thread_of(kib: usize, calls: fn() -> Result<(), Refusal>) {
+    let small = std::thread::Builder::new().stack_size(kib * 1024);
+    let thread = small.spawn(calls).expect("a thread can be made");
+    assert_eq!(thread.join().expect("the thread ends"), Ok(()));
+}
+
+/// docs/ABI.md states what the deepest calls take: of these a write, a list of writes, a replayed write.
 #[test]
 fn a_thread_of_64_kib_is_enough() {
-    let largest = Layout { n: 16, k: 3, p: 22, u: 4096, t: 1, cookie: 5 };
-    let deepest_calls = move || -> Result<(), Refusal> {
-        let mut image = vec![0; largest.measure()?.image as usize];
-        let mut pool = Pool::new(largest, &mut image);
+    in_a_thread_of(64, || {
+        let mut image = vec![0; LARGEST.measure()?.image as usize];
+        let mut pool = Pool::new(LARGEST, &mut image);
         for target in [3, 7, 11] {
             pool.fail(target)?;
         }
@@ -670,8 +869,20 @@ fn a_thread_of_64_kib_is_enough() {
         pool.audit()?;
         pool.repair()?;
         pool.read(1, &mut file)
-    };
-    let small = std::thread::Builder::new().stack_size(64 * 1024);
-    let thread = small.spawn(deepest_calls).expect("a thread can be made");
-    assert_eq!(thread.join().expect("the thread ends"), Ok(()));
+    });
+}
+
+/// Of a plan that is tested the groups are marked on the stack.
+#[test]
+fn a_thread_of_128_kib_is_enough_for_plans() {
+    in_a_thread_of(128, || {
+        let mut image = vec![0; LARGEST.measure()?.image as usize];
+        let mut pool = Pool::new(LARGEST, &mut image);
+        for target in [3, 7, 11] {
+            pool.fail(target)?;
+        }
+        let plan = pool.drawn_plan()?;
+        pool.check_plan(&plan)?;
+        pool.repair_by(&plan).map(|_| ())
+    });
 }

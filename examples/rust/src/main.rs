@@ -12,6 +12,7 @@ const WEIGHT_AT: u64 = 48;
 const TAG_AT: u64 = 56;
 const TOO_FAR: u64 = 76;
 const LOST: usize = 2;
+const ENTRY: usize = 2 + 2;
 
 fn store(pool: &mut Pool, at: u64, photograph: &str) -> Result<()> {
     pool.write(at, photograph.as_bytes())?;
@@ -70,6 +71,34 @@ fn end_session(pool: &mut Pool) -> Result<()> {
     Ok(())
 }
 
+/// The row controller takes the groups in an order of its own: our plan with its last entry first. An entry has a
+/// group, the lost unit of it, and the two units to rebuild that from.
+fn propose(pool: &Pool) -> Result<Vec<u64>> {
+    let ours = pool.drawn_plan()?;
+    let other: Vec<u64> = ours.chunks(ENTRY).rev().flatten().copied().collect();
+    println!("The row controller plans the repair:");
+    for entry in other.chunks(ENTRY) {
+        let (group, unit) = (entry[0], entry[1]);
+        println!("of group {group} unit {unit}, from the units {} and {}", entry[2], entry[3]);
+    }
+    Ok(other)
+}
+
+/// A plan that would read a lost unit is refused; an accepted one leaves what plain repair leaves.
+fn repair_by(pool: &mut Pool, proposed: &[u64]) -> Result<u64> {
+    let mut wrong = proposed.to_vec();
+    wrong[2] = wrong[1];
+    let refusal = pool.check_plan(&wrong).expect_err("a lost unit is no source");
+    println!("With the lost unit as its own source, that is refused with {}.", refusal.number());
+    pool.check_plan(proposed)?;
+    let mut copy = pool.image().to_vec();
+    Pool::with_record(ROW, pool.record(), &mut copy).repair()?;
+    let missing = pool.repair_by(proposed)?;
+    let left = if copy == pool.image() { "the same bytes as" } else { "other bytes than" };
+    println!("As it is, it leaves {left} repair without a plan.");
+    Ok(missing)
+}
+
 /// Field staff mail the row as text; the desk takes it back, and refuses a copy that was spoilt.
 fn mail(pool: &Pool) -> Result<()> {
     let line = 11 + 2 * ROW.u as usize;
@@ -108,7 +137,8 @@ fn main() -> Result<()> {
     show(&pool, SECOND_AT, SECOND.len())?;
     show(&pool, TAG_AT, TAG.len())?;
 
-    let missing = pool.repair()?;
+    let proposed = propose(&pool)?;
+    let missing = repair_by(&mut pool, &proposed)?;
     println!("The row is repaired: {missing} units were missing.");
     panel(&pool)?;
     show(&pool, 0, FIRST.len())?;
