@@ -71,16 +71,20 @@ fn solved(mut rows: Vec<Vec<u8>>, mut rights: Vec<Bytes>) -> Vec<Bytes> {
     rights
 }
 
+/// The N data units that agree with these N different contents, each given
+/// with its number.
+pub fn data_from(given: &[(usize, Bytes)]) -> Vec<Bytes> {
+    let n = given.len();
+    let rows = given.iter().map(|(c, _)| coefficients(n, *c)).collect();
+    solved(rows, given.iter().map(|(_, unit)| unit.clone()).collect())
+}
+
 /// The N data units that agree with the N lowest present contents.
 /// `contents` has N+K entries, `None` where missing.
 pub fn data_of(n: usize, contents: &[Option<Bytes>]) -> Vec<Bytes> {
-    let used: Vec<usize> = (0..contents.len())
-        .filter(|content| contents[*content].is_some())
-        .take(n)
-        .collect();
-    let rows = used.iter().map(|c| coefficients(n, *c)).collect();
-    let rights = used.iter().filter_map(|c| contents[*c].clone()).collect();
-    solved(rows, rights)
+    let present = contents.iter().enumerate();
+    let given = present.filter_map(|(c, unit)| Some((c, unit.clone()?)));
+    data_from(&given.take(n).collect::<Vec<_>>())
 }
 
 /// Public call: sets the K parity units of a buffer of (N+K)·U bytes from its

@@ -74,14 +74,14 @@ pub fn homes(contents: usize, targets: &[u64], list: &[u64]) -> Vec<usize> {
 }
 
 /// What the record says about one group.
-struct GroupState {
+pub(crate) struct GroupState {
     /// Where each content's present home begins in the image, `None` where missing.
-    present: Vec<Option<usize>>,
+    pub(crate) present: Vec<Option<usize>>,
     /// Where each content's home under the whole list begins in the image.
-    repaired: Vec<usize>,
+    pub(crate) repaired: Vec<usize>,
 }
 
-fn group_state(layout: &Layout, record: &Record, group: u64) -> GroupState {
+pub(crate) fn group_state(layout: &Layout, record: &Record, group: u64) -> GroupState {
     let contents = layout.contents() as usize;
     let targets = unit_targets(layout, group);
     let begins = |unit: usize| place(layout, group, unit as u64).1.begins as usize;

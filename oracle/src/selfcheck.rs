@@ -1,6 +1,6 @@
 //! Document 01's checked examples, starred or not, and of document 02 the order
-//! that order 5 gives to files and the count of order 6, as checks of this
-//! library.
+//! that order 5 gives to files, the count of order 6 and the plans of order 7, as
+//! checks of this library.
 
 use crate::catalogue::{listing, lookup, refusal, Listed, Record as Entry, Wide};
 use crate::draws::Draws;
@@ -12,6 +12,7 @@ use crate::permutation::{advance, permutation, start};
 use crate::place::{file_byte, image_byte, place, unit_targets};
 use crate::pool::{fail, homes, read, repair, write, Record};
 use crate::pool_count::{audit, missing_units, most_missing, panel, Counts, WRONG_COUNT};
+use crate::pool_plan::{check_plan, draw_plan, repair_by, BAD_PLAN};
 use crate::pool_text::{read_text, write_text};
 use crate::replay::{play_line, Event};
 
@@ -19,7 +20,7 @@ use crate::replay::{play_line, Event};
 pub type Check = (&'static str, fn() -> bool);
 
 /// All of them.
-pub const CHECKS: [Check; 27] = [
+pub const CHECKS: [Check; 32] = [
     ("N=4 K=2 P=20: W=8, B=40, L=2, C=5", wide_layout),
     ("N=1 K=0 P=1: L=1, C=1", least_layout),
     ("N=16 K=3: P=22 accepted, P=21 refused 1", tight_layout),
@@ -85,6 +86,26 @@ pub const CHECKS: [Check; 27] = [
     (
         "order 6: from a true count every call keeps it true",
         counts_stay_true,
+    ),
+    (
+        "order 7: failing target 3, our planner's plan is 2 0 1 3 1 0",
+        plan_of_failing_three,
+    ),
+    (
+        "order 7: of all two entries that plan is accepted, and the other way round",
+        plans_of_failing_three,
+    ),
+    (
+        "order 7: either leaves the image and record of plain repair",
+        repairs_of_failing_three,
+    ),
+    (
+        "order 7: where present units disagree, the ones named decide",
+        named_unit_decides,
+    ),
+    (
+        "order 7: nothing missing, the empty plan alone is accepted",
+        plans_of_nothing,
     ),
 ];
 
@@ -362,6 +383,100 @@ fn after_a_call(draws: &mut Draws, shape: &Layout, record: &Record, image: &mut 
     };
     let room = 24 + 2 * image.len();
     play_line(shape, record, image, line.line().as_bytes(), room).record
+}
+
+/// The row of the examples with target 3 failed, and its image, which holds the
+/// file `0123456789abcdef`, but for target 3, which has other bytes by now.
+fn three_failed() -> (Layout, Record, [u8; 48]) {
+    let (shape, whole, mut image) = (example(), Record::default(), [0; 48]);
+    write(&shape, &whole, &mut image, 0, b"0123456789abcdef");
+    let record = fail(&shape, &whole, &image, 3).1;
+    image[36..].fill(0xee);
+    (shape, record, image)
+}
+
+/// What is missing is group 2's data and group 3's parity, and with N = 1 each
+/// has one other content that may be its source.
+const RISING: [u64; 6] = [2, 0, 1, 3, 1, 0];
+const FALLING: [u64; 6] = [3, 1, 0, 2, 0, 1];
+
+fn plan_of_failing_three() -> bool {
+    let (shape, record, image) = three_failed();
+    let (mut room, mut short) = ([9; 7], [9; 5]);
+    draw_plan(&shape, &record, &image, &mut room) == (0, 6)
+        && (&room[..6], room[6]) == (&RISING[..], 9)
+        && draw_plan(&shape, &record, &image, &mut short) == (5, 0)
+        && short == [9; 5]
+}
+
+/// All entries of a group up to 4, a content and a source up to 2: one more than
+/// the row has of each.
+fn all_entries() -> Vec<[u64; 3]> {
+    let entry = |at: u64| [at / 9, at / 3 % 3, at % 3];
+    (0..45).map(entry).collect()
+}
+
+fn plans_of_failing_three() -> bool {
+    let (shape, record, image) = three_failed();
+    all_entries().iter().all(|first| {
+        all_entries().iter().all(|second| {
+            let plan = [*first, *second].concat();
+            let wanted = if plan == RISING || plan == FALLING {
+                0
+            } else {
+                BAD_PLAN
+            };
+            check_plan(&shape, &record, &image, &plan) == wanted
+        })
+    })
+}
+
+/// The data of group 2, file bytes 8 to 11, goes to frame 2 of target 2, the
+/// parity of group 3, with N = 1 its file bytes 12 to 15, to frame 2 of target 0.
+fn repairs_of_failing_three() -> bool {
+    let (shape, record, image) = three_failed();
+    let (mut wanted, mut plain) = (image, image);
+    wanted[32..36].copy_from_slice(b"89ab");
+    wanted[8..12].copy_from_slice(b"cdef");
+    let answer = repair(&shape, &record, &mut plain);
+    let by = |plan: &[u64]| {
+        let mut after = image;
+        let (refusal, record, count) = repair_by(&shape, &record, &mut after, plan);
+        (refusal, record, count) == answer && after == wanted
+    };
+    let (refusal, after, count) = answer;
+    plain == wanted
+        && (refusal, after.q, after.waiting, count) == (0, 1, 0, 2)
+        && by(&RISING)
+        && by(&FALLING)
+}
+
+/// N=1 K=2 with units on targets a b c d e, the data lost with a: its home
+/// becomes d, and it is the first parity's or the second's byte, as is named.
+fn named_unit_decides() -> bool {
+    let shape = layout(1, 2, 5, 1, 1, 0);
+    let begins = |unit| place(&shape, 0, unit).1.begins as usize;
+    let mut image = [0; 5];
+    for unit in 0..5 {
+        image[begins(unit)] = b"abcde"[unit as usize];
+    }
+    let a = unit_targets(&shape, 0)[0];
+    let record = fail(&shape, &Record::default(), &image, a).1;
+    let by = |source| {
+        let mut after = image;
+        repair_by(&shape, &record, &mut after, &[0, 0, source]);
+        [0, 1, 2, 3, 4].map(|unit| after[begins(unit)])
+    };
+    [0, 1, 2, 3].map(by) == [*b"abcde", *b"abcbe", *b"abcce", *b"abcde"]
+}
+
+fn plans_of_nothing() -> bool {
+    let (shape, record, mut image) = three_failed();
+    let repaired = repair(&shape, &record, &mut image).1;
+    let empty = |record: &Record| check_plan(&shape, record, &image, &[]);
+    let is_none = |entry: &[u64; 3]| check_plan(&shape, &repaired, &image, entry) == BAD_PLAN;
+    (empty(&Record::default()), empty(&repaired), empty(&record)) == (0, 0, BAD_PLAN)
+        && all_entries().iter().all(is_none)
 }
 
 #[cfg(test)]

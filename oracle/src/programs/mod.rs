@@ -4,6 +4,7 @@
 
 pub mod catalogue_runs;
 pub mod codes;
+pub mod controller;
 pub mod examples;
 pub mod hex_pools;
 pub mod layouts;
@@ -25,7 +26,7 @@ macro_rules! line {
 pub(crate) use line;
 
 /// The programs by name.
-pub const NAMES: [&str; 11] = [
+pub const NAMES: [&str; 12] = [
     "examples",
     "layouts",
     "products",
@@ -36,6 +37,7 @@ pub const NAMES: [&str; 11] = [
     "morning",
     "mail",
     "session",
+    "controller",
     "replay",
 ];
 
@@ -52,6 +54,7 @@ pub fn expected(name: &str) -> Option<String> {
         "morning" => Some(morning::output()),
         "mail" => Some(mail::output()),
         "session" => Some(session::output()),
+        "controller" => Some(controller::output()),
         "replay" => Some(replay::output()),
         _ => None,
     }

@@ -147,6 +147,13 @@ pub fn hex(bytes: &[u8]) -> String {
     format!("({} bytes) {digits}{rest}", bytes.len())
 }
 
+/// The numbers of a buffer in a report.
+pub fn numbers(all: &[u64]) -> String {
+    let shown: Vec<String> = all.iter().take(SHOWN).map(u64::to_string).collect();
+    let rest = if all.len() > SHOWN { " .." } else { "" };
+    format!("({} numbers) {}{rest}", all.len(), shown.join(" "))
+}
+
 /// The characters of a text in a report.
 pub fn quoted(text: &[u8]) -> String {
     let rest = if text.len() > SHOWN { ".." } else { "" };

@@ -22,12 +22,15 @@ type Test = fn(&Counted) -> bool;
 type Comparison = fn(u64, u64) -> bool;
 
 /// The calls that take a record, the events of a replayed line last.
-pub const TAKERS: [&str; 13] = [
+pub const TAKERS: [&str; 16] = [
     "fail",
     "read",
     "write",
     "write_list",
     "repair",
+    "check_plan",
+    "repair_by",
+    "draw_plan",
     "panel",
     "audit",
     "prepare",
@@ -55,7 +58,7 @@ pub const COUNTS: [(&str, Test); 5] = [
 ];
 
 /// A library that is wrong for one of these may be right for all others, so each must be met.
-pub const COUNT_KINDS: [(&str, Test); 33] = [
+pub const COUNT_KINDS: [(&str, Test); 37] = [
     ("fail: raised to the bound", |c| {
         c.fails(0, |c, raise| raise > 0 && c.goes(raise) == c.most())
     }),
@@ -80,6 +83,16 @@ pub const COUNT_KINDS: [(&str, Test); 33] = [
         c.is("repair", 0) && c.compares(|count, truth| count > 0 && truth == 0)
     }),
     ("repair: refused, with a count", |c| c.is_refused("repair") && c.waiting() > 0),
+    ("repair_by: a count too low", |c| {
+        c.is("repair_by", 0) && c.compares(|count, truth| count < truth)
+    }),
+    ("repair_by: a count too high", |c| {
+        c.is("repair_by", 0) && c.compares(|count, truth| count > truth)
+    }),
+    ("repair_by: count, none missing", |c| {
+        c.is("repair_by", 0) && c.compares(|count, truth| count > 0 && truth == 0)
+    }),
+    ("repair_by: refused, with a count", |c| c.is_refused("repair_by") && c.waiting() > 0),
     ("panel: three other numbers", |c| {
         let Record { k, q, waiting, .. } = c.pool.record;
         c.is("panel", 0) && k != q && k != waiting && q != waiting

@@ -61,7 +61,7 @@ fn with_another(draws: &mut Draws, pool: &Pool) -> Pool {
     }
     let usual = records::good(draws, y);
     let unrepaired = records::unrepaired(draws, y);
-    Pool { record: draws.pick(&[usual, unrepaired]), ..pool.clone() }
+    Pool { record: draws.pick(&[usual, unrepaired]), holds_file: false, ..pool.clone() }
 }
 
 pub fn repair_another(bench: &mut Bench, pool: &Pool) {

@@ -28,7 +28,7 @@ fn shape(draws: &mut Draws) -> (u64, u64, u64) {
     (n, k, p)
 }
 
-fn cookie(draws: &mut Draws) -> u64 {
+pub fn cookie(draws: &mut Draws) -> u64 {
     if draws.one_in(3) {
         draws.edge()
     } else {

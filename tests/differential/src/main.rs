@@ -21,6 +21,12 @@ mod line_kinds;
 mod list_kinds;
 mod lists;
 mod places;
+mod plan_damages;
+mod plan_draws;
+mod plan_kinds;
+mod plan_rules;
+mod plan_tally;
+mod plans;
 mod pool_calls;
 mod pools;
 mod records;
@@ -28,6 +34,7 @@ mod replays;
 mod spoil;
 mod tally;
 mod texts;
+mod wide_plans;
 
 use bench::{Bench, ROUND, SEED};
 use draws::Draws;
@@ -45,10 +52,20 @@ const USAGE: &str =
            rest; of the catalogue's rules second-word-first, first-word-alone, first-word-ignored, half-cob,
            next-exchanged, half-freed; of the count's rules all-units, own-places, raised-too-little,
            raised-too-far, raise-first, raised-though-refused, kept-by-repair, taken-by-repair, panel-counts,
-           audit-of-nothing, audit-of-own-places, lower-bound, higher-bound";
+           audit-of-nothing, audit-of-own-places, lower-bound, higher-bound; of the plans' rules named-twice,
+           left-out, empty-taken, present-too, outside-too, missing-source, source-twice, source-of-8-bits,
+           source-of-16-bits, source-of-32-bits, content-of-8-bits, content-of-32-bits, group-of-16-bits,
+           group-of-32-bits, rest-ignored, sources-ignored, q-kept, waiting-kept, count-taken,
+           repaired-though-refused, old-homes, stored-though-refused, plan-first, drawn-though-short,
+           rest-cleared, second-lowest, drawn-backwards, exact-too-short, room-by-count,
+           length-though-refused, length-in-entries";
 
 /// Under two minutes, also where x86-64 is emulated.
 const USUAL_RUNS: u64 = 300_000;
+/// Of so many rounds one, the first of them early, has a pool with many groups: each run has such plans, few of them,
+/// since the model takes its time.
+const WIDE_PLANS: u64 = 4000;
+const FIRST_WIDE_PLANS: u64 = 100;
 
 struct Options {
     runs: u64,
@@ -77,12 +94,16 @@ fn options(mut words: impl Iterator<Item = String>) -> Option<Options> {
 fn round(bench: &mut Bench, seed: u64, number: u64) {
     ROUND.store(number, Relaxed);
     bench.draws = Draws::new(seed, number);
-    match bench.draws.below(13) {
+    if number % WIDE_PLANS == FIRST_WIDE_PLANS {
+        return wide_plans::round(bench);
+    }
+    match bench.draws.below(17) {
         0 | 1 => places::round(bench),
         2 | 3 => groups::round(bench),
         4 | 5 => catalogues::round(bench),
         6 => texts::round(bench),
-        7 | 8 => replays::round(bench),
+        7..=9 => replays::round(bench),
+        10 | 11 => plans::round(bench),
         _ => pools::round(bench),
     }
 }

@@ -166,6 +166,11 @@ pub fn fail_target(bench: &mut Bench, pool: &Pool, target: u64) -> Pool {
 }
 
 pub fn repair(bench: &mut Bench, pool: &Pool) -> Pool {
+    repair_to(bench, pool, None)
+}
+
+/// Repairs. `wanted` is what the pool must become, where that is known without the model's repair.
+pub fn repair_to(bench: &mut Bench, pool: &Pool, wanted: Option<&Pool>) -> Pool {
     let inputs = || pool.told();
     let mut trial = bench.begin(Call::Repair, &inputs);
     let image = bench.lend_mut(&pool.image);
@@ -178,6 +183,10 @@ pub fn repair(bench: &mut Bench, pool: &Pool) -> Pool {
     trial.number("count", answer.count, count);
     compare_record(&mut trial, &answer.record, &record);
     trial.buffer("image", &image, &after.image);
+    if let Some(wanted) = wanted {
+        compare_record(&mut trial, &answer.record, &wanted.record);
+        trial.buffer("image, against a repair by a plan", &image, &wanted.image);
+    }
     bench.end(trial, refusal);
     bench.tally.add_count(&Counted::of(Call::Repair, pool, refusal));
     after

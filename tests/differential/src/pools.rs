@@ -5,6 +5,7 @@ use crate::counts::{self, audit, audit_another, fail_about_the_bound, panel, rep
 use crate::draws::Draws;
 use crate::layouts::is_light;
 use crate::lists::write_list;
+use crate::plans;
 use crate::pool_calls::{fail, hex_line, prepare, read, repair, show, write};
 use crate::{layouts, records};
 use oracle::layout::Layout;
@@ -32,6 +33,8 @@ pub struct Pool {
     pub image: Vec<u8>,
     /// Whether a failed target holds other bytes than those that it failed with.
     pub is_scribbled: bool,
+    /// Whether the image became what it is from zeros by calls on this layout and record, so that present contents agree.
+    pub holds_file: bool,
 }
 
 impl Pool {
@@ -45,10 +48,11 @@ impl Pool {
         let length = layout.derived().image as usize;
         if draws.one_in(3) {
             let record = records::good(draws, &layout);
-            Pool { layout, record, image: draws.bytes(length), is_scribbled: record.k > 0 }
+            let (image, is_scribbled) = (draws.bytes(length), record.k > 0);
+            Pool { layout, record, image, is_scribbled, holds_file: false }
         } else {
-            let record = records::empty(draws);
-            Pool { layout, record, image: vec![0; length], is_scribbled: false }
+            let (record, image) = (records::empty(draws), vec![0; length]);
+            Pool { layout, record, image, is_scribbled: false, holds_file: true }
         }
     }
 
@@ -60,7 +64,7 @@ impl Pool {
 
     /// The pool with something else in the place of one thing or more: mostly what a call must refuse.
     pub fn damaged(&self, draws: &mut Draws) -> Pool {
-        let mut pool = self.clone();
+        let mut pool = Pool { holds_file: false, ..self.clone() };
         loop {
             match draws.below(6) {
                 0 => pool.layout = layouts::damaged(draws, &pool.layout),
@@ -74,6 +78,11 @@ impl Pool {
                 return pool;
             }
         }
+    }
+
+    /// The pool with a bad record, and nothing else in its place: a bad layout or a wrong length would be told before.
+    pub fn with_bad_record(&self, draws: &mut Draws) -> Pool {
+        Pool { record: records::bad(draws, &self.layout), holds_file: false, ..self.clone() }
     }
 
     /// Whether layout, image and record are good ones.
@@ -156,7 +165,7 @@ pub fn round(bench: &mut Bench) {
 
 /// Makes one call; what it leaves, for calls that change the record or the image.
 fn call(bench: &mut Bench, pool: &Pool) -> Option<Pool> {
-    match bench.draws.below(34) {
+    match bench.draws.below(36) {
         0..=3 => read(bench, pool),
         4..=8 => return Some(write(bench, pool)),
         9..=11 => return Some(fail(bench, pool)),
@@ -169,6 +178,7 @@ fn call(bench: &mut Bench, pool: &Pool) -> Option<Pool> {
         25..=26 if is_light(&pool.layout) => audit_another(bench, pool),
         27 if is_light(&pool.layout) => repair_another(bench, pool),
         24..=29 => fail_about_the_bound(bench, pool),
+        30..=31 if is_light(&pool.layout) => return plans::call(bench, pool),
         _ => return Some(write_list(bench, pool)),
     }
     None

@@ -9,7 +9,6 @@ use crate::line_damages::damage;
 use crate::line_kinds::{FirstLine, Line};
 use crate::pool_calls::{compare_record, fail_target, range, repair, target, write_at};
 use crate::pools::{Pool, RECOUNTED};
-use crate::records;
 use crate::tally::Call;
 use oracle::layout::Layout;
 use oracle::replay::{self, line_of_layout, Event, Played, LARGEST_IMAGE, LONGEST_LINE};
@@ -56,12 +55,12 @@ pub fn round(bench: &mut Bench) {
     }
 }
 
-/// Often bad in its record alone, since a bad layout or a wrong length is told before that.
+/// Often bad in its record alone.
 fn damaged(draws: &mut Draws, pool: &Pool) -> Pool {
     if draws.one_in(2) {
         return pool.damaged(draws);
     }
-    Pool { record: records::bad(draws, &pool.layout), ..pool.clone() }
+    pool.with_bad_record(draws)
 }
 
 fn usual(draws: &mut Draws) -> Layout {

@@ -1,9 +1,11 @@
-//! Faults made on purpose, one for each kind of comparison, one for each rule of the catalogue's numbers of two words and one
-//! for each of the count of missing units: the tester must report every one of them.
+//! Faults made on purpose, one for each kind of comparison, one for each rule of the catalogue's numbers of two words, one
+//! for each of the count of missing units and one for each of plans of repair: the tester must report every one of them.
 
 use crate::catalogue_rules::Rule;
 use crate::count_rules::CountRule;
 use crate::lent::Lent;
+use crate::plan_rules::Numbers::{Content, Group, Sources};
+use crate::plan_rules::PlanRule;
 
 /// What a library with a fault would do.
 #[derive(Clone, Copy, Debug, PartialEq, Eq)]
@@ -26,9 +28,11 @@ pub enum Spoil {
     Rule(Rule),
     /// A rule of the count of missing units is another.
     Count(CountRule),
+    /// A rule of plans of repair is another.
+    Plan(PlanRule),
 }
 
-const KINDS: [(&str, Spoil); 26] = [
+const KINDS: [(&str, Spoil); 57] = [
     ("answer", Spoil::Answer),
     ("byte", Spoil::Byte),
     ("before", Spoil::Before),
@@ -55,6 +59,37 @@ const KINDS: [(&str, Spoil); 26] = [
     ("audit-of-own-places", Spoil::Count(CountRule::AuditOfOwnPlaces)),
     ("lower-bound", Spoil::Count(CountRule::LowerBound)),
     ("higher-bound", Spoil::Count(CountRule::HigherBound)),
+    ("named-twice", Spoil::Plan(PlanRule::NamedTwice)),
+    ("left-out", Spoil::Plan(PlanRule::LeftOut)),
+    ("empty-taken", Spoil::Plan(PlanRule::EmptyTaken)),
+    ("present-too", Spoil::Plan(PlanRule::PresentToo)),
+    ("outside-too", Spoil::Plan(PlanRule::OutsideToo)),
+    ("missing-source", Spoil::Plan(PlanRule::MissingSource)),
+    ("source-twice", Spoil::Plan(PlanRule::SourceTwice)),
+    ("source-of-8-bits", Spoil::Plan(PlanRule::Narrow(Sources, 8))),
+    ("source-of-16-bits", Spoil::Plan(PlanRule::Narrow(Sources, 16))),
+    ("source-of-32-bits", Spoil::Plan(PlanRule::Narrow(Sources, 32))),
+    ("content-of-8-bits", Spoil::Plan(PlanRule::Narrow(Content, 8))),
+    ("content-of-32-bits", Spoil::Plan(PlanRule::Narrow(Content, 32))),
+    ("group-of-16-bits", Spoil::Plan(PlanRule::Narrow(Group, 16))),
+    ("group-of-32-bits", Spoil::Plan(PlanRule::Narrow(Group, 32))),
+    ("rest-ignored", Spoil::Plan(PlanRule::RestIgnored)),
+    ("sources-ignored", Spoil::Plan(PlanRule::SourcesIgnored)),
+    ("q-kept", Spoil::Plan(PlanRule::QKept)),
+    ("waiting-kept", Spoil::Plan(PlanRule::WaitingKept)),
+    ("count-taken", Spoil::Plan(PlanRule::CountTaken)),
+    ("repaired-though-refused", Spoil::Plan(PlanRule::RepairedThoughRefused)),
+    ("old-homes", Spoil::Plan(PlanRule::OldHomes)),
+    ("stored-though-refused", Spoil::Plan(PlanRule::StoredThoughRefused)),
+    ("plan-first", Spoil::Plan(PlanRule::PlanFirst)),
+    ("drawn-though-short", Spoil::Plan(PlanRule::DrawnThoughShort)),
+    ("rest-cleared", Spoil::Plan(PlanRule::RestCleared)),
+    ("second-lowest", Spoil::Plan(PlanRule::SecondLowest)),
+    ("drawn-backwards", Spoil::Plan(PlanRule::DrawnBackwards)),
+    ("exact-too-short", Spoil::Plan(PlanRule::ExactTooShort)),
+    ("room-by-count", Spoil::Plan(PlanRule::RoomByCount)),
+    ("length-though-refused", Spoil::Plan(PlanRule::LengthThoughRefused)),
+    ("length-in-entries", Spoil::Plan(PlanRule::LengthInEntries)),
 ];
 
 impl Spoil {

@@ -1,6 +1,6 @@
-//! What has been tried so far: the calls with their refusal numbers, the layouts, the damage done to texts and to
-//! replayed lines, the kinds of lists of writes, of calls on catalogues and of calls by the count in their record, and
-//! those of replayed lines with the numbers of their answers.
+//! What has been tried so far: the calls with their refusal numbers, the layouts, the damage done to texts, to plans of
+//! repair and to replayed lines, the kinds of lists of writes, of plans, of calls on catalogues and of calls by the count
+//! in their record, and those of replayed lines with the numbers of their answers.
 
 use crate::catalogue_kinds::{Asked, CATALOGUE_KINDS};
 use crate::count_kinds::{Counted, COUNTS, COUNT_KINDS, TAKERS};
@@ -8,6 +8,7 @@ use crate::damages::DAMAGES;
 use crate::line_damages::LINE_DAMAGES;
 use crate::line_kinds::{FirstLine, Line, EVENTS, FIRST_KINDS, LINE_KINDS, MALFORMED};
 use crate::list_kinds::{Listed, KINDS};
+use crate::plan_tally::PlanTally;
 use oracle::layout::Layout;
 
 /// The public calls, in the order of include/splicebell.h.
@@ -28,6 +29,9 @@ pub enum Call {
     Write,
     WriteList,
     Repair,
+    CheckPlan,
+    RepairBy,
+    DrawPlan,
     Panel,
     Audit,
     Prepare,
@@ -44,7 +48,7 @@ pub enum Call {
 }
 
 /// The name of each call, and the numbers that it may answer by include/splicebell.h, beside 0.
-const CALLS: [(&str, &[usize]); 28] = [
+const CALLS: [(&str, &[usize]); 31] = [
     ("measure", &[1]),
     ("tile_permutation", &[1, 4]),
     ("tile_inverse", &[1, 4]),
@@ -60,6 +64,9 @@ const CALLS: [(&str, &[usize]); 28] = [
     ("write", &[1, 2, 3, 4]),
     ("write_list", &[1, 2, 3, 4, 5]),
     ("repair", &[1, 2, 3]),
+    ("check_plan", &[1, 2, 3, 15]),
+    ("repair_by", &[1, 2, 3, 15]),
+    ("draw_plan", &[1, 2, 3, 5]),
     ("panel", &[1, 2, 3]),
     ("audit", &[1, 2, 3, 14]),
     ("prepare", &[1, 2, 3, 4, 5]),
@@ -81,8 +88,8 @@ impl Call {
     }
 }
 
-/// The refusal numbers, 0 among them: document 01's table, and 12, 13 and 14 of document 02.
-const REFUSALS: usize = 15;
+/// The refusal numbers, 0 among them: document 01's table, and 12 to 15 of document 02.
+const REFUSALS: usize = 16;
 
 /// The lowest and the highest that was seen.
 #[derive(Clone, Copy)]
@@ -144,6 +151,8 @@ pub struct Tally {
     /// kind by its count.
     counts_taken: [[u64; COUNTS.len()]; TAKERS.len()],
     counted: [u64; COUNT_KINDS.len()],
+    plan_layouts: Ranges,
+    pub plans: PlanTally,
     replays: Ranges,
     /// How often each event was answered with each number, and how often a line was malformed.
     events: [[u64; REFUSALS]; EVENTS.len()],
@@ -166,6 +175,8 @@ impl Tally {
         catalogues: [0; CATALOGUE_KINDS.len()],
         counts_taken: [[0; COUNTS.len()]; TAKERS.len()],
         counted: [0; COUNT_KINDS.len()],
+        plan_layouts: Ranges::NONE,
+        plans: PlanTally::NONE,
         replays: Ranges::NONE,
         events: [[0; REFUSALS]; EVENTS.len()],
         malformed: 0,
@@ -228,6 +239,11 @@ impl Tally {
         }
     }
 
+    /// A layout whose pool is repaired by plans.
+    pub fn add_plan_layout(&mut self, layout: &Layout) {
+        self.plan_layouts.add(layout);
+    }
+
     /// A layout whose pool lines are played on.
     pub fn add_replay(&mut self, layout: &Layout) {
         self.replays.add(layout);
@@ -287,10 +303,12 @@ impl Tally {
             println!("catalogue: {name:30}{count:9}");
         }
         self.print_counts();
+        self.plans.print();
         self.print_lines();
         self.all.print("without an image");
         self.pools.print("pools");
         self.texts.print("texts");
+        self.plan_layouts.print("plans");
         self.replays.print("replays");
     }
 
@@ -323,7 +341,7 @@ impl Tally {
     }
 
     /// The calls and their refusal numbers that were never met, the damage that was never done, and the kinds of
-    /// lists, of calls on catalogues, of calls by their count and of replayed lines that were never met.
+    /// lists, of plans, of calls on catalogues, of calls by their count and of replayed lines that were never met.
     pub fn never_met(&self) -> Vec<String> {
         let mut never = Vec::new();
         for ((name, refusals), of_call) in CALLS.iter().zip(self.counts) {
@@ -344,6 +362,7 @@ impl Tally {
             never.extend(unmet(&format!("{taker} with"), &COUNTS, counts));
         }
         never.extend(unmet("a call by its count,", &COUNT_KINDS, &self.counted));
+        never.extend(self.plans.never_met());
         never.extend(unmet("a line damaged by", &LINE_DAMAGES, &self.line_damages));
         never.extend(unmet("a line with", &LINE_KINDS, &self.lines));
         never.extend(unmet("a first line with", &FIRST_KINDS, &self.firsts));
@@ -358,7 +377,7 @@ fn numbers_met(counts: &[u64]) -> String {
 }
 
 /// The kinds that were never counted, each named behind some words.
-fn unmet<T>(words: &str, kinds: &[(&str, T)], counts: &[u64]) -> Vec<String> {
+pub fn unmet<T>(words: &str, kinds: &[(&str, T)], counts: &[u64]) -> Vec<String> {
     let never = kinds.iter().zip(counts).filter(|(_, count)| **count == 0);
     never.map(|((name, _), _)| format!("{words} {name}")).collect()
 }
