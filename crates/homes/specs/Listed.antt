@@ -2,16 +2,22 @@
 use mathlib.Core.Path.{_≡_, refl, sym, ap, _∙_}
 use mathlib.Core.Logic.{_⊎_, inl, inr, ⊎-elim}
 use mathlib.Core.Bool.{Bool, true, false}
-use Prim.Native.Nat.{ℕ, suc, _≤_, _<_}
+use Prim.Native.Nat.{ℕ, suc, _+_, _≤_, _<_}
+use native.Mathlib.Numerals.{add-one}
 use native.Mathlib.Omega.{arith}
 use borrow.Author.Tests.{eqb-true, eqb-false, eq-eqb, ne-eqb}
 use lib.Dec.{eqb}
-use Rattle.lists.specs.Pick.{pick-false, either-way}
+use Rattle.lists.specs.Pick.{pick, pick-false, either-way}
 use Rattle.lists.specs.Search.{any, any-none, any-true, any-false, any-same}
 
 -- t is among the first j entries of e
 unfoldable pub listed : (ℕ → ℕ) → ℕ → ℕ → Bool
 listed e j t = any (λ i. eqb (e i) t) j
+
+-- one entry more
+pub listed-next : (e : ℕ → ℕ) (j t : ℕ) → listed e (j + 1) t ≡ pick (eqb (e j) t) true (listed e j t)
+unfolding listed any
+listed-next e j t = ap (any (λ i. eqb (e i) t)) (add-one j)
 
 pub listed-suc : (e : ℕ → ℕ) (j t : ℕ) → listed e (suc j) t ≡ true → (e j ≡ t) ⊎ (listed e j t ≡ true)
 unfolding listed any

@@ -5,7 +5,6 @@ use mathlib.Core.Bool.{Bool, true, false, not}
 use mathlib.Core.List.{List}
 use Prim.Native.Nat.{ℕ, _+_, _*_, _<_, _≤_}
 use native.Mathlib.Nat.{not-suc-le-zero, add-zero, add-assoc}
-use native.Mathlib.Numerals.{add-one}
 use native.Mathlib.Omega.{arith}
 use borrow.Author.Tests.{eq-eqb, ne-eqb, ltb-true, lt-ltb, le-ltb}
 use lib.Dec.{eqb, ltb}
@@ -21,7 +20,7 @@ use Rattle.numbers.specs.Layouts.{Valid, allGroups, contents}
 use Rattle.parity.specs.Matrix.{flag}
 use Rattle.homes.specs.declared.Record.{Record}
 use Rattle.homes.specs.Records.{Good}
-use Rattle.homes.specs.Listed.{listed, listed-same}
+use Rattle.homes.specs.Listed.{listed-next, listed, listed-same}
 use Rattle.homes.specs.Missing.{missing}
 use Rattle.homes.specs.MissingLaws.{few-missing}
 use Rattle.proposal.specs.Plans.{entrySize, groupNamed, contentNamed, source, numberOf, sourceGood, sourcesGood, namesMissing}
@@ -35,8 +34,8 @@ abbrev pub numberFrom : List ℕ → ℕ → ℕ → ℕ
 numberFrom plan from j = at plan (from + j)
 
 -- it is below m, no flag is set at it, and none of those before it is the same
-unfoldable pub sourceFrom : List Bool → ℕ → List ℕ → ℕ → ℕ → Bool
-sourceFrom flags m plan from j =
+unfoldable pub sourceGoodFrom : List Bool → ℕ → List ℕ → ℕ → ℕ → Bool
+sourceGoodFrom flags m plan from j =
     both (ltb (numberFrom plan from j) m)
     (both (not (flag flags (numberFrom plan from j))) (not (listed (numberFrom plan from) j (numberFrom plan from j))))
 
@@ -44,26 +43,22 @@ sourceFrom flags m plan from j =
 pub record Taken (flags : List Bool) (m : ℕ) (plan : List ℕ) (from j : ℕ) (taken : List Bool) : Type 0 where
   pub room : length taken ≡ 19
   pub taken-are : (u : ℕ) → u < 19 → flag taken u ≡ pick (listed (numberFrom plan from) j u) true (flag flags u)
-  pub all-good : (i : ℕ) → i < j → sourceFrom flags m plan from i ≡ true
-
-listed-next : (e : ℕ → ℕ) (j t : ℕ) → listed e (j + 1) t ≡ pick (eqb (e j) t) true (listed e j t)
-unfolding listed any
-listed-next e j t = ap (any (λ i. eqb (e i) t)) (add-one j)
+  pub all-good : (i : ℕ) → i < j → sourceGoodFrom flags m plan from i ≡ true
 
 module _ (flags : List Bool) (m : ℕ) (plan : List ℕ) (from : ℕ) where
   pub taken-begin : length flags ≡ 19 → Taken flags m plan from 0 flags
   unfolding listed any
   taken-begin len = record { room = len; taken-are = λ u b. refl; all-good = λ i b. absurd (not-suc-le-zero b) }
 
-  pub taken-end : (j n : ℕ) (taken : List Bool) → Taken flags m plan from j taken → n ≤ j → all (sourceFrom flags m plan from) n ≡ true
-  taken-end j n taken k h = all-true (sourceFrom flags m plan from) n (λ i b. k .all-good i (omega arith))
+  pub taken-end : (j n : ℕ) (taken : List Bool) → Taken flags m plan from j taken → n ≤ j → all (sourceGoodFrom flags m plan from) n ≡ true
+  taken-end j n taken k h = all-true (sourceGoodFrom flags m plan from) n (λ i b. k .all-good i (omega arith))
 
-  fails : (j n : ℕ) → j < n → sourceFrom flags m plan from j ≡ false → all (sourceFrom flags m plan from) n ≡ false
-  fails j n h f = not-both-ways _ (λ t. clash (sourceFrom flags m plan from j) (all-at (sourceFrom flags m plan from) n t j h) f)
+  fails : (j n : ℕ) → j < n → sourceGoodFrom flags m plan from j ≡ false → all (sourceGoodFrom flags m plan from) n ≡ false
+  fails j n h f = not-both-ways _ (λ t. clash (sourceGoodFrom flags m plan from j) (all-at (sourceGoodFrom flags m plan from) n t j h) f)
 
   -- a number that is too large
-  pub source-above : (j n : ℕ) → j < n → m ≤ numberFrom plan from j → all (sourceFrom flags m plan from) n ≡ false
-  unfolding sourceFrom
+  pub source-above : (j n : ℕ) → j < n → m ≤ numberFrom plan from j → all (sourceGoodFrom flags m plan from) n ≡ false
+  unfolding sourceGoodFrom
   source-above j n h l = fails j n h (pick-false (ltb (numberFrom plan from j) m) _ false (le-ltb (numberFrom plan from j) m l))
 
   module _ (j : ℕ) (taken : List Bool) (k : Taken flags m plan from j taken) (small : numberFrom plan from j < 19) where
@@ -85,14 +80,14 @@ module _ (flags : List Bool) (m : ℕ) (plan : List ℕ) (from : ℕ) where
     neither false false c e t = refl
 
     -- one that is taken
-    pub source-taken : (n : ℕ) → j < n → flag taken x ≡ true → all (sourceFrom flags m plan from) n ≡ false
-    unfolding sourceFrom
+    pub source-taken : (n : ℕ) → j < n → flag taken x ≡ true → all (sourceGoodFrom flags m plan from) n ≡ false
+    unfolding sourceGoodFrom
     source-taken n h t =
         fails j n h (ap (both (ltb x m)) (either (listed (numberFrom plan from) j x) (flag flags x) (flag taken x) told t) ∙ both-off (ltb x m))
 
     -- one that is not, and is now
     pub taken-next : x < m → flag taken x ≡ false → Taken flags m plan from (j + 1) (set taken x true)
-    unfolding sourceFrom
+    unfolding sourceGoodFrom
     taken-next below t =
         record {
           room = length-set taken x true ∙ k .room;
@@ -111,7 +106,7 @@ module _ (flags : List Bool) (m : ℕ) (plan : List ℕ) (from : ℕ) where
           all-good = λ i b.
               equal-or-not i j
               (λ (q : i ≡ j).
-              ap (sourceFrom flags m plan from) q
+              ap (sourceGoodFrom flags m plan from) q
               ∙ both-hold (ltb x m) _ (lt-ltb x m below) (neither (listed (numberFrom plan from) j x) (flag flags x) (flag taken x) told t))
               (λ (ne : i ≡ j → ⊥). k .all-good i (omega arith));
         }
@@ -144,15 +139,15 @@ module _ (y : Layout) (R : Record) (plan : List ℕ) (e from : ℕ) (here : from
     both-under false b c h = refl
 
     -- its sources as the code tests them
-    source-same : (j : ℕ) → sourceFrom flags (contents y) plan (from + 2) j ≡ sourceGood y R plan e j
-    unfolding sourceFrom sourceGood
+    source-same : (j : ℕ) → sourceGoodFrom flags (contents y) plan (from + 2) j ≡ sourceGood y R plan e j
+    unfolding sourceGoodFrom sourceGood
     source-same j =
         ap (λ (z : ℕ). both (ltb z (contents y)) (both (not (flag flags z)) (not (listed (numberFrom plan (from + 2)) j z)))) (source-here j)
         ∙ both-under (ltb (source y plan e j) (contents y)) _ _
         (λ t. ap₂ (λ (a b : Bool). both (not a) (not b)) (are-here (source y plan e j) (ltb-true (source y plan e j) (contents y) t))
         (listed-same (numberFrom plan (from + 2)) (source y plan e) j (source y plan e j) (λ i b. source-here i)))
 
-    sources-same : all (sourceFrom flags (contents y) plan (from + 2)) (y .n) ≡ sourcesGood y R plan e
+    sources-same : all (sourceGoodFrom flags (contents y) plan (from + 2)) (y .n) ≡ sourcesGood y R plan e
     unfolding sourcesGood
     sources-same = all-same _ _ (y .n) (λ j b. source-same j)
 
@@ -183,7 +178,7 @@ module _ (y : Layout) (R : Record) (plan : List ℕ) (e from : ℕ) (here : from
         clash (missing y R (groupNamed y plan e) (contentNamed y plan e)) (both-true (ltb (contentNamed y plan e) (contents y)) _ d .1)
         (ap (missing y R (groupNamed y plan e)) (sym content-here) ∙ sym (are-here (at plan (from + 1)) l) ∙ f)))
 
-    pub sources-bad : (b : Bool) → b ≡ all (sourceFrom flags (contents y) plan (from + 2)) (y .n) → b ≡ false → 3 ≡ rankOr3 y R plan e
+    pub sources-bad : (b : Bool) → b ≡ all (sourceGoodFrom flags (contents y) plan (from + 2)) (y .n) → b ≡ false → 3 ≡ rankOr3 y R plan e
     unfolding entryGood
     sources-bad b q f =
         not-good
@@ -195,7 +190,7 @@ module _ (y : Layout) (R : Record) (plan : List ℕ) (e from : ℕ) (here : from
     rank-of c b = count-same (flag flags) (missing y R (at plan from)) c (λ k h. are k (omega arith))
 
     pub rank-here : at plan from < allGroups y → at plan (from + 1) < contents y → flag flags (at plan (from + 1)) ≡ true
-        → (b : Bool) → b ≡ all (sourceFrom flags (contents y) plan (from + 2)) (y .n) → b ≡ true
+        → (b : Bool) → b ≡ all (sourceGoodFrom flags (contents y) plan (from + 2)) (y .n) → b ≡ true
         → (n : ℕ) → n ≡ length (those (flag flags) (at plan (from + 1))) → n ≡ rankOr3 y R plan e
     unfolding rankOr3 entryGood namesMissing
     rank-here hg hc t b z s n q =

@@ -14,13 +14,13 @@ ghost use Rattle.proposal.specs.Plans.{entrySize, entries, planGood};
 ghost use Rattle.proposal_check.specs.Checked.{entriesGood};
 ghost use Rattle.proposal_check.specs.Marks.{weightOf};
 ghost use Rattle.proposal_check.specs.Windows.{windowGood};
-ghost use Rattle.proposal_check.specs.Entry.{sourceFrom, rankOr3};
+ghost use Rattle.proposal_check.specs.Entry.{sourceGoodFrom, rankOr3};
 ghost use Rattle.proposal_check.specs.Steps.{Asked};
 
 // The sources that begin at plan[at], n of them: each below m, not missing, and none of those before it.
 fn sources_good(missing: [bool; 19], m: usize, plan: &[u64], at: usize, n: usize) -> bool
     requires { ⌜ (m ≤ 19) × (at + n ≤ length (now plan)) ⌝ }
-    ensures { λ b. ⌜ b ≡ all (sourceFrom missing m (now (plan .entry)) at) n ⌝ }
+    ensures { λ b. ⌜ b ≡ all (sourceGoodFrom missing m (now (plan .entry)) at) n ⌝ }
 {
     let mut taken = missing;
     let mut j: usize = 0;

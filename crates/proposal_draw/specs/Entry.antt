@@ -24,8 +24,8 @@ unfoldable pub entryBy : List Bool → ℕ → ℕ → ℕ → ℕ → ℕ
 entryBy flags m g c f = pick (eqb f 0) g (pick (eqb f 1) c (at (those (presentBy flags) m) (f - 2)))
 
 -- what stands at place z, where the sources begin at place a, and where the entry does
-abbrev pub sourceFrom : List Bool → ℕ → ℕ → ℕ → ℕ
-sourceFrom flags m a z = at (those (presentBy flags) m) (z - a)
+abbrev pub lowestFrom : List Bool → ℕ → ℕ → ℕ → ℕ
+lowestFrom flags m a z = at (those (presentBy flags) m) (z - a)
 
 abbrev pub entryFrom : List Bool → ℕ → ℕ → ℕ → ℕ → ℕ → ℕ
 entryFrom flags m g c a z = entryBy flags m g c (z - a)
@@ -37,7 +37,7 @@ pub record SourcesTo (flags : List Bool) (m n a : ℕ) (old : List ℕ) (u j : �
   pub seen : u ≤ m
   pub few : j ≤ n
   pub count-is : j ≡ count (presentBy flags) u
-  pub written : Span (sourceFrom flags m a) a (a + j) old out
+  pub written : Span (lowestFrom flags m a) a (a + j) old out
 
 pub sources-begin : (flags : List Bool) (m n a : ℕ) (old : List ℕ) → SourcesTo flags m n a old 0 0 old
 unfolding count
@@ -46,7 +46,7 @@ sources-begin flags m n a old =
       seen = omega arith;
       few = omega arith;
       count-is = refl;
-      written = span-none (sourceFrom flags m a) a old (omega arith);
+      written = span-none (lowestFrom flags m a) a old (omega arith);
     }
 
 module _ (flags : List Bool) (m n a : ℕ) (old : List ℕ) (u j : ℕ) (out : List ℕ) (s : SourcesTo flags m n a old u j out) (more : j < n)
@@ -65,11 +65,11 @@ module _ (flags : List Bool) (m n a : ℕ) (old : List ℕ) (u j : ℕ) (out : L
         seen = omega (arith, content-left);
         few = omega arith;
         count-is = omega (arith, s .count-is, count-next (presentBy flags) u, z);
-        written = subst (λ (l : List ℕ). Span (sourceFrom flags m a) a (a + j′) old l) (sym eo) (span-to (a + j) (a + j′) (omega arith) (s .written));
+        written = subst (λ (l : List ℕ). Span (lowestFrom flags m a) a (a + j′) old l) (sym eo) (span-to (a + j) (a + j′) (omega arith) (s .written));
       }
 
   -- a content that is present
-  source-is : presentBy flags u ≡ true → u ≡ sourceFrom flags m a (a + j)
+  source-is : presentBy flags u ≡ true → u ≡ lowestFrom flags m a (a + j)
   source-is t =
       sym (ap (at (those (presentBy flags) m)) (add-sub-cancel-left a j ∙ s .count-is) ∙ those-place (presentBy flags) m u content-left t .1)
 
@@ -82,12 +82,12 @@ module _ (flags : List Bool) (m n a : ℕ) (old : List ℕ) (u j : ℕ) (out : L
         few = omega arith;
         count-is = omega (arith, s .count-is, count-next (presentBy flags) u, z);
         written =
-            subst (λ (l : List ℕ). Span (sourceFrom flags m a) a (a + j′) old l) (sym eo)
-            (span-step (sourceFrom flags m a) a (a + j) out u (omega arith) (omega (arith, s .written .len)) (omega arith) (s .written) (source-is t));
+            subst (λ (l : List ℕ). Span (lowestFrom flags m a) a (a + j′) old l) (sym eo)
+            (span-step (lowestFrom flags m a) a (a + j) out u (omega arith) (omega (arith, s .written .len)) (omega arith) (s .written) (source-is t));
       }
 
 pub sources-end : (flags : List Bool) (m n a : ℕ) (old : List ℕ) (u j : ℕ) (out : List ℕ) → SourcesTo flags m n a old u j out → n ≤ j
-    → Span (sourceFrom flags m a) a (a + n) old out
+    → Span (lowestFrom flags m a) a (a + n) old out
 sources-end flags m n a old u j out s h = span-to (a + j) (a + n) (omega (arith, s .few)) (s .written)
 
 -- ---- the entry
@@ -102,7 +102,7 @@ module _ (flags : List Bool) (m g c a : ℕ) where
   entry-content =
       let z : 1 ≡ a + 1 - a = omega arith in ap (λ (f : ℕ). pick (eqb f 0) g (pick (eqb f 1) c (at (those (presentBy flags) m) (f - 2)))) z
 
-  entry-source : (z : ℕ) → a + 2 ≤ z → sourceFrom flags m (a + 2) z ≡ entryFrom flags m g c a z
+  entry-source : (z : ℕ) → a + 2 ≤ z → lowestFrom flags m (a + 2) z ≡ entryFrom flags m g c a z
   unfolding entryBy
   entry-source z h =
       ap (at (those (presentBy flags) m)) (omega arith)
@@ -111,7 +111,7 @@ module _ (flags : List Bool) (m g c a : ℕ) where
 
   -- group, content, and then the sources
   pub entry-drawn : (n : ℕ) (old out : List ℕ) → a + (n + 2) ≤ length old
-      → Span (sourceFrom flags m (a + 2)) (a + 2) (a + 2 + n) (set (set old a g) (a + 1) c) out → Span (entryFrom flags m g c a) a (a + (n + 2)) old out
+      → Span (lowestFrom flags m (a + 2)) (a + 2) (a + 2 + n) (set (set old a g) (a + 1) c) out → Span (entryFrom flags m g c a) a (a + (n + 2)) old out
   entry-drawn n old out room s =
       let f = entryFrom flags m g c a in
       let one : Span f a (a + 1) old (set old a g) =
@@ -119,6 +119,6 @@ module _ (flags : List Bool) (m g c a : ℕ) where
       let two : Span f a (a + 2) old (set (set old a g) (a + 1) c) =
       span-step f a (a + 1) (set old a g) c (omega arith) (omega (arith, length-set old a g)) (omega arith) one entry-content in
       let e : a + 2 + n ≡ a + (n + 2) = omega arith in
-      span-join f (sourceFrom flags m (a + 2)) f a (a + 2) (a + (n + 2)) (omega arith) (omega arith) two
-      (subst (λ (x : ℕ). Span (sourceFrom flags m (a + 2)) (a + 2) x (set (set old a g) (a + 1) c) out) e s)
+      span-join f (lowestFrom flags m (a + 2)) f a (a + 2) (a + (n + 2)) (omega arith) (omega arith) two
+      (subst (λ (x : ℕ). Span (lowestFrom flags m (a + 2)) (a + 2) x (set (set old a g) (a + 1) c) out) e s)
       (λ z h k. refl) (λ z h k. entry-source z h)

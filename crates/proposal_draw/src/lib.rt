@@ -13,13 +13,13 @@ ghost use Rattle.homes.specs.Records.{Good};
 ghost use Rattle.homes.specs.Standing.{InTile};
 ghost use Rattle.proposal.specs.Plans.{entrySize};
 ghost use Rattle.proposal.specs.Drawing.{drawnLength, drawnPlan};
-ghost use Rattle.proposal_draw.specs.Entry.{presentBy, sourceFrom, entryFrom};
+ghost use Rattle.proposal_draw.specs.Entry.{presentBy, lowestFrom, entryFrom};
 ghost use Rattle.proposal_draw.specs.Drawn.{planNumber, numbersBelow};
 
 // The n lowest of m contents that are not missing, in out[at ..]. There are at least n, so the end of the contents is not tested.
 fn draw_sources(missing: [bool; 19], m: usize, n: usize, out: &mut [u64], at: usize)
     requires { ⌜ (m ≤ 19) × (n ≤ count (presentBy missing) m) × (at + n ≤ length (now out)) ⌝ }
-    ensures { λ _. ⌜ Span (sourceFrom missing m at) at (at + n) (now (out .entry)) (now (out .exit)) ⌝ }
+    ensures { λ _. ⌜ Span (lowestFrom missing m at) at (at + n) (now (out .entry)) (now (out .exit)) ⌝ }
 {
     let mut j: usize = 0;
     let mut u: usize = 0;

@@ -1,10 +1,9 @@
 -- The list of a plan as the code goes through it, one entry's numbers after another's.
-use mathlib.Core.Path.{_≡_, refl, sym, ap, _∙_, subst}
+use mathlib.Core.Path.{_≡_, sym, ap, _∙_, subst}
 use mathlib.Core.Bool.{Bool, true, false, not}
 use mathlib.Core.List.{List}
 use Prim.Native.Nat.{ℕ, _+_, _*_, _/_, _<_, _≤_}
 use native.Mathlib.Nat.{mul-le-mul-left, mul-div-cancel-left, lt-of-mul-lt-mul-left}
-use native.Mathlib.Numerals.{add-one}
 use native.Mathlib.Omega.{arith}
 use borrow.Author.Tests.{eq-eqb, ne-eqb}
 use lib.Dec.{eqb}
@@ -22,7 +21,7 @@ use Rattle.parity.specs.Matrix.{flag}
 use Rattle.parity.specs.Group.{Solvable}
 use Rattle.homes.specs.declared.Record.{Record}
 use Rattle.homes.specs.Records.{Good}
-use Rattle.homes.specs.Listed.{listed, listed-same}
+use Rattle.homes.specs.Listed.{listed, listed-next, listed-same}
 use Rattle.homes.specs.Standing.{InTile}
 use Rattle.pool.specs.Asked.{Sound}
 use Rattle.plan.specs.declared.Plan.{Plan}
@@ -86,20 +85,16 @@ left-turn plan from j flags len lt left =
           (λ (e : u ≡ x).
           ap (flag (set flags x false)) e
           ∙ getD-set-same flags x false false (omega (arith, len))
-          ∙ sym (ap not (more u ∙ pick-true (eqb x u) true _ (eq-eqb x u (sym e)))))
+          ∙ sym (ap not (listed-next (sourceFrom plan from) j u ∙ pick-true (eqb x u) true _ (eq-eqb x u (sym e)))))
           (λ (ne : u ≡ x → ⊥).
           getD-set-other flags x u false false ne
           ∙ left .are u h
-          ∙ sym (ap not (more u ∙ pick-false (eqb x u) true _ (ne-eqb x u (λ (e : x ≡ u). ne (sym e))))));
+          ∙ sym (ap not (listed-next (sourceFrom plan from) j u ∙ pick-false (eqb x u) true _ (ne-eqb x u (λ (e : x ≡ u). ne (sym e))))));
     }
   where
     x : ℕ
     x = sourceFrom plan from j
 
-    more : (u : ℕ) → listed (sourceFrom plan from) (j + 1) u ≡ pick (eqb x u) true (listed (sourceFrom plan from) j u)
-    more u = ap (λ (m : ℕ). listed (sourceFrom plan from) m u) (add-one j) ∙ unfold listed in unfold any in refl
-
--- what stands in a group for an entry begins where it did
 pub same-starts : (y : Layout) (R : Record) (j g : ℕ) (starts starts′ : List ℕ) → starts′ ≡ starts → StartsUnder y R j g starts → StartsUnder y R j g starts′
 same-starts y R j g starts starts′ e s = subst (StartsUnder y R j g) (sym e) s
 
