@@ -3,21 +3,26 @@
 -- runs (`Runs`, `Demand3`, `Calls`: `planned`, `plan-as-repair`); here stands what is the plan's own.
 use mathlib.Core.Path.{_≡_, refl, sym, ap, _∙_, subst, subst⁻¹}
 use mathlib.Core.Logic.{_⊎_, ⊎-elim}
-use mathlib.Core.Bool.{Bool, true, false}
+use mathlib.Core.Bool.{Bool, true, false, not}
 use mathlib.Core.List.{List, [], _∷_}
-use Prim.Native.Nat.{ℕ, zero, suc, _*_, _≤_, _<_}
+use Prim.Native.Nat.{ℕ, zero, suc, _+_, _*_, _≤_, _<_}
 use native.Mathlib.Omega.{arith}
+use borrow.Author.Tests.{lt-ltb, not-true}
 use lib.Dec.{leb}
 use lib.ListN.{length, take}
-use Rattle.lists.specs.Pick.{either-way, pick-true}
+use Rattle.lists.specs.Pick.{bit, pick-true, both-true, both-hold, either-way}
+use Rattle.lists.specs.Count.{count-next, count-mono, count-not}
 use Rattle.lists.specs.Tabulate.{at}
 use Rattle.lists.specs.Refusal.{LowestThatApplies, _orElse_, refusalBy, refusal-lowest, refusal-none, grant, grant-yes, grant-no}
 use Rattle.numbers.specs.declared.Layout.{Layout}
-use Rattle.numbers.specs.Layouts.{allContents}
+use Rattle.numbers.specs.Layouts.{contents, allContents}
 use Rattle.place.specs.Bytes.{spot, targetHere}
-use Rattle.parity.specs.Group.{rebuilt}
+use Rattle.parity.specs.Group.{content, Solvable, dataOf, rebuilt}
+use Rattle.parity.specs.Content.{content-cong}
+use Rattle.parity.specs.Lowest.{used, rebuilds, determined}
 use Rattle.parity.specs.Local.{rebuilt-cong}
 use Rattle.homes.specs.declared.Record.{Record}
+use Rattle.homes.specs.Listed.{listed, listed-at}
 use Rattle.homes.specs.Records.{failed}
 use Rattle.homes.specs.Missing.{home, missing}
 use Rattle.pool.specs.Contents.{stored}
@@ -143,6 +148,75 @@ module _ (y : Layout) (R : Record) (img plan : List ℕ) where
       at-new-home i o hi ho =
           unfold stored in unfold home in (H.stored-planned y R plan img z (groupNamed y plan i) o (contentNamed y plan i) (k .group-lt i hi) ho (k .content-lt i hi)
           ∙ pick-true (missing y R (groupNamed y plan i) (contentNamed y plan i)) _ _ (k .is-missing i hi))
+
+-- the same told by the sources: some data bytes give each of an entry's N sources what is stored of it, and the content that it names is what they encode to,
+-- also where other present contents disagree with them
+pub record FromSources (y : Layout) (plan : List ℕ) (i : ℕ) (old : ℕ → ℕ) (new : ℕ) : Type 0 where
+  pub from : ℕ → ℕ
+  pub bytes : (j : ℕ) → j < y .n → from j < 256
+  pub agrees : (j : ℕ) → j < y .n → content (y .n) from (source y plan i j) ≡ old (source y plan i j)
+  pub encodes : new ≡ content (y .n) from (contentNamed y plan i)
+
+module _ (y : Layout) (R : Record) (img plan : List ℕ) (count′ : ℕ) (R′ : Record) (img′ : List ℕ) (p : RepairsBy y R img plan 0 count′ R′ img′) (i o : ℕ)
+    (in-plan : i < entries y plan) (in-unit : o < y .u) where
+  asked : L.PlanAsked y R (length img) plan
+  asked = L.plan-asked y R (length img) plan (sym (p .answer))
+
+  s : Solvable (y .n) (y .k) (unused y plan i)
+  s = L.plan-solvable y R plan (asked .accepts) (asked .sound .valid) i in-plan
+
+  -- what is stored of the entry's group at that unit offset
+  abbrev old : ℕ → ℕ
+  old = stored y R img (groupNamed y plan i) o
+
+  -- a source is used, as are N contents in all, so it is one of the N lowest of these
+  source-used : (j : ℕ) → j < y .n → used (y .n) (unused y plan i) (source y plan i j) ≡ true
+  unfolding unused
+  source-used j h =
+      let u = source y plan i j in
+      let in-use : ℕ → Bool = λ v. not (not (listed (source y plan i) (y .n) v)) in
+      let on : in-use u ≡ true = ap (λ (b : Bool). not (not b)) (listed-at (source y plan i) (y .n) j h) in
+      let one : bit (in-use u) ≡ 1 = ap bit on in
+      both-hold (in-use u) _ on
+      (lt-ltb _ (y .n) (omega (
+        arith,
+        one,
+        count-next in-use u,
+        count-mono in-use (u + 1) (contents y) (omega (arith, asked .accepts .source-lt i j in-plan h)),
+        L.sources-count y R plan (asked .accepts) i in-plan,
+        count-not (listed (source y plan i) (y .n)) (contents y),
+        count-not (λ v. not (listed (source y plan i) (y .n) v)) (contents y),
+      )))
+
+  -- on an image of bytes there are such data,
+  pub repair-by-agrees : ((c : ℕ) → c < contents y → old c < 256)
+      → FromSources y plan i old (at img′ (spot y (groupNamed y plan i) (home y R (R .k) (groupNamed y plan i) (contentNamed y plan i)) o))
+  repair-by-agrees small =
+      let r = rebuilds (y .n) (y .k) (unused y plan i) s old small in
+      let k = asked .accepts in
+      record {
+        from = r .from;
+        bytes = r .bytes;
+        agrees = λ j h. r .agrees (source y plan i j) (k .source-lt i j in-plan h) (source-used j h);
+        encodes =
+            repair-by-ran y R img plan count′ R′ img′ p .byte-is i o in-plan in-unit
+            ∙ r .filled (contentNamed y plan i) (k .content-lt i in-plan) (L.missing-unused y R plan k i (contentNamed y plan i) in-plan (k .is-missing i in-plan));
+      }
+
+  -- and no other byte has any
+  pub repair-by-determined : (new new′ : ℕ) → FromSources y plan i old new → FromSources y plan i old new′ → new ≡ new′
+  repair-by-determined new new′ a b =
+      a .encodes
+      ∙ content-cong (y .n) (a .from) (b .from) (λ j h. sym (given (a .from) (a .bytes) (a .agrees) j h) ∙ given (b .from) (b .bytes) (b .agrees) j h) (contentNamed y plan i)
+      ∙ sym (b .encodes)
+    where
+      given : (d : ℕ → ℕ) → ((j : ℕ) → j < y .n → d j < 256) → ((j : ℕ) → j < y .n → content (y .n) d (source y plan i j) ≡ old (source y plan i j))
+          → (j : ℕ) → j < y .n → dataOf (y .n) (y .k) (unused y plan i) old j ≡ d j
+      given d small agree =
+          determined (y .n) (y .k) (unused y plan i) s old d small
+          (λ u h t.
+          let w = L.used-source y R plan (asked .accepts) i u in-plan (not-true (unused y plan i u) (both-true (not (unused y plan i u)) _ t .0)) in
+          ap (content (y .n) d) (sym (w .2)) ∙ agree (w .0) (w .1) ∙ ap old (w .2))
 
 -- "The row controller wants to choose what repair reads": of two images that agree on the sources that an entry names, the content that it names becomes the
 -- same, whatever else differs
