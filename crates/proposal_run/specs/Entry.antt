@@ -41,12 +41,12 @@ use Rattle.proposal_run.specs.Steps.{entryByte, entryImage, entry-laid}
 abbrev pub LeavesSources : Layout → List ℕ → ℕ → List Bool → Type 0
 LeavesSources y plan i flags = (u : ℕ) → u < contents y → flag flags u ≡ unused y plan i u
 
--- the plan of entry i's group with all but its sources counted as missing
+-- the plan of entry i's group with all but its sources counted as missing, and each content looked for at its home under the whole list
 pub record EntryPlan (y : Layout) (R : Record) (plan : List ℕ) (i : ℕ) (Q : Plan) : Type 0 where
   pub n-is : Q .n ≡ y .n
   pub k-is : Q .k ≡ y .k
   pub u-is : Q .u ≡ y .u
-  pub at-is : StartsUnder y R (R .q) (groupNamed y plan i) (Q .at)
+  pub at-is : StartsUnder y R (R .k) (groupNamed y plan i) (Q .at)
   pub flags-are : LeavesSources y plan i (Q .missing)
   pub right : Right Q
 
@@ -86,31 +86,29 @@ module _ (y : Layout) (v : Valid y) (R : Record) (good : Good y R) (plan : List 
           u-max = omega (arith, q .u-is, v .few-bytes);
           inside = λ c h.
               let b : c < contents y = omega (arith, q .n-is, q .k-is) in
-              omega (arith, placed y v R (R .q) (omega (arith, good .mended, good .few)) .inside g c hg b, q .at-is c b, q .u-is, e);
+              omega (arith, placed y v R (R .k) (good .few) .inside g c hg b, q .at-is c b, q .u-is, e);
         }
 
-    -- what it gives of a content is what the entry rebuilds
+    -- what it gives of a content is what the entry rebuilds: a source, which is present, has its home under the whole list already
     entry-held : (img : List ℕ) (o c : ℕ) → c < contents y → held Q img o c ≡ entryByte y R plan i img g o c
     unfolding held entryByte column stored
     entry-held img o c h =
         (λ j. rebuilt (q .n-is j) (q .k-is j) (missOf Q) (column Q img o) c)
         ∙ missing-same (y .n) (y .k) (missOf Q) (unused y plan i) (q .flags-are) (column Q img o) c h
         ∙ rebuilt-cong (y .n) (y .k) (unused y plan i) (plan-solvable y R plan k v i hi) (column Q img o) (stored y R img g o)
-        (λ u b t. ap (λ (x : ℕ). getD img x 0) (ap (λ (a : ℕ). a + o) (q .at-is u b) ∙ spot-plus y g (home y R (R .q) g u) o)) c h
+        (λ u b t. ap (λ (x : ℕ). getD img x 0)
+        (ap (λ (a : ℕ). a + o) (q .at-is u b) ∙ spot-plus y g (home y R (R .k) g u) o
+        ∙ ap (λ (w : ℕ). spot y g w o) (home-stays y v R g (good .mended) u (used-present y R plan k i u hi t)))) c h
 
     module _ (homes : List ℕ) (new : StartsUnder y R (R .k) g homes) where
-      -- the homes under the whole list lie in the image, no two meet, and a source, which is present, keeps its home
+      -- the homes under the whole list lie in the image, and no two meet
       pub entry-mend-fits : (size : ℕ) → size ≡ imageLength y → MendFits Q homes size
       entry-mend-fits size e =
           record {
             inside = λ c h t. let b = content c h in omega (arith, placed y v R (R .k) (good .few) .inside g c hg b, new c b, q .u-is, e);
             apart = λ c d x z hc hd hx hz m.
                 sym (own c x (content c hc) (omega (arith, q .u-is))) ∙ ap (contentHere y R (R .k)) m ∙ own d z (content d hd) (omega (arith, q .u-is));
-            stays = λ d h t.
-                let b = content d h in
-                new d b
-                ∙ ap (λ (u : ℕ). spot y g u 0) (home-stays y v R g (good .mended) d (used-present y R plan k i d hi (sym (q .flags-are d b) ∙ t)))
-                ∙ sym (q .at-is d b);
+            stays = λ d h t. let b = content d h in new d b ∙ sym (q .at-is d b);
           }
         where
           content : (c : ℕ) → c < Q .n + Q .k → c < contents y
@@ -153,15 +151,15 @@ module _ (y : Layout) (v : Valid y) (R : Record) (good : Good y R) (plan : List 
           inside : start + Q .u ≤ length img
           inside = omega (arith, placed y v R (R .k) (good .few) .inside g c hg hc, new c hc, len, q .u-is)
 
-  -- such a plan is made of what stands in the group
-  pub entry-planned : (last : Survey) → Surveying y last → (starts : List ℕ) → StartsUnder y R (R .q) (groupNamed y plan i) starts → (flags : List Bool) → LeavesSources y plan i flags
-      → (Q : Plan) → Planned (last .plan .n) (last .plan .k) (last .plan .u) starts flags Q → EntryPlan y R plan i Q
-  entry-planned last w starts old flags left Q p =
+  -- such a plan is made of the homes under the whole list
+  pub entry-planned : (last : Survey) → Surveying y last → (homes : List ℕ) → StartsUnder y R (R .k) (groupNamed y plan i) homes → (flags : List Bool) → LeavesSources y plan i flags
+      → (Q : Plan) → Planned (last .plan .n) (last .plan .k) (last .plan .u) homes flags Q → EntryPlan y R plan i Q
+  entry-planned last w homes new flags left Q p =
       record {
         n-is = p .n-is ∙ w .n-is;
         k-is = p .k-is ∙ w .k-is;
         u-is = p .u-is ∙ w .u-is;
-        at-is = λ c b. ap (λ (l : List ℕ). getD l c 0) (p .at-is) ∙ old c b;
+        at-is = λ c b. ap (λ (l : List ℕ). getD l c 0) (p .at-is) ∙ new c b;
         flags-are = λ u b. p .flags-are u (omega (arith, w .n-is, w .k-is)) ∙ left u b;
         right = p .right;
       }

@@ -95,9 +95,6 @@ left-turn plan from j flags len lt left =
     x : ℕ
     x = sourceFrom plan from j
 
-pub same-starts : (y : Layout) (R : Record) (j g : ℕ) (starts starts′ : List ℕ) → starts′ ≡ starts → StartsUnder y R j g starts → StartsUnder y R j g starts′
-same-starts y R j g starts starts′ e s = subst (StartsUnder y R j g) (sym e) s
-
 -- ---- what the list has at an entry
 
 module _ (y : Layout) (s : Shape) (R : Record) (plan : List ℕ) (a : ℕ) (e : AtEntry y s R plan a) where
@@ -149,15 +146,14 @@ module _ (y : Layout) (s : Shape) (R : Record) (plan : List ℕ) (a : ℕ) (e : 
   entry-next =
       entry-solvable y (e .valid) R (e .good) plan (e .accepts) (entryAt y a) (e .entry-lt) last w flags (entry-left y s R plan a e flags left)
 
-  module _ (starts : List ℕ) (old : StartsUnder y R (R .q) (at plan a) starts) (homes : List ℕ) (new : StartsUnder y R (R .k) (at plan a) homes) (Q : Plan)
-      (p : Planned (last .plan .n) (last .plan .k) (last .plan .u) starts flags Q) where
-    planned : EntryPlan y R plan (entryAt y a) Q
-    planned =
-        entry-planned y (e .valid) R (e .good) plan (e .accepts) (entryAt y a) (e .entry-lt) last w starts
-        (subst (λ (g : ℕ). StartsUnder y R (R .q) g starts) (group-read y s R plan a e) old) flags (entry-left y s R plan a e flags left) Q p
-
+  module _ (homes : List ℕ) (new : StartsUnder y R (R .k) (at plan a) homes) (Q : Plan)
+      (p : Planned (last .plan .n) (last .plan .k) (last .plan .u) homes flags Q) where
     new-here : StartsUnder y R (R .k) (groupNamed y plan (entryAt y a)) homes
     new-here = subst (λ (g : ℕ). StartsUnder y R (R .k) g homes) (group-read y s R plan a e) new
+
+    planned : EntryPlan y R plan (entryAt y a) Q
+    planned =
+        entry-planned y (e .valid) R (e .good) plan (e .accepts) (entryAt y a) (e .entry-lt) last w homes new-here flags (entry-left y s R plan a e flags left) Q p
 
     pub entry-ready : (size : ℕ) → size ≡ imageLength y → Fits Q size × MendFits Q homes size × (at plan (a + 1) < Q .n + Q .k)
     entry-ready size q = (

@@ -2,7 +2,6 @@
 use homes::Record;
 use numbers::Layout;
 use numbers::Shape;
-use survey::Stand;
 use survey::Survey;
 ghost use mathlib.Core.Path.{_≡_};
 ghost use lib.ListN.{length};
@@ -14,12 +13,11 @@ ghost use Rattle.proposal.specs.Running.{plannedImage};
 ghost use Rattle.proposal_run.specs.Steps.{entryImage};
 ghost use Rattle.proposal_run.specs.Turns.{entryAt, AtEntry, SourcesFrom, LeftOut};
 
-// What stands in a group for an entry: all contents but its n sources, which begin at proposal[from], count as missing.
-fn sources_alone(stand: Stand, proposal: &[u64], from: usize, n: usize) -> Stand
+// All contents but the n sources that begin at proposal[from].
+fn left_out(proposal: &[u64], from: usize, n: usize) -> [bool; 19]
     requires { ⌜ SourcesFrom (now proposal) from n ⌝ }
-    ensures { λ x. ⌜ (x .at ≡ stand .at) × LeftOut (now (proposal .entry)) from n (x .missing) ⌝ }
+    ensures { λ x. ⌜ LeftOut (now (proposal .entry)) from n x ⌝ }
 {
-    let at = stand.at;
     let mut missing = [true; 19];
     let mut j: usize = 0;
     while j < n {
@@ -27,11 +25,12 @@ fn sources_alone(stand: Stand, proposal: &[u64], from: usize, n: usize) -> Stand
         missing[source] = false;
         j += 1;
     }
-    Stand { at, missing }
+    missing
 }
 
-// The entry at proposal[at]: its content is rebuilt from its sources and stored at its home under the whole list. The permutation of the entry
-// before is kept where the tile is the same, and the rows where the sources are.
+// The entry at proposal[at]: its content is rebuilt from its sources and stored at its home under the whole list. A source is present, and has its home
+// under the whole list already: so what is read is found by the same homes. The permutation of the entry before is kept where the tile is the same,
+// and the rows where the sources are.
 fn run_entry(
     last: Survey,
     y: Layout,
@@ -49,13 +48,10 @@ fn run_entry(
     let tile = g / s.c;
     let in_hand = last.to;
     let to = survey::tile_to(y, last.tile, in_hand, tile);
-    let stand = survey::stand_of(y, s, r, &to, g);
     let homes = survey::new_starts(y, s, r, &to, g);
-    let taken = sources_alone(stand, proposal, at + 2, y.n as usize);
+    let flags = left_out(proposal, at + 2, y.n as usize);
     let old = last.plan;
-    let starts = taken.at;
-    let flags = taken.missing;
-    let plan = plan::plan_next(old, starts, flags);
+    let plan = plan::plan_next(old, homes, flags);
     groups::mend_unit(plan, homes, image, c);
     Survey { tile, to, plan }
 }

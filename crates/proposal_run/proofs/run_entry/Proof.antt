@@ -3,15 +3,16 @@
 use mathlib.Core.Path.{refl}
 use native.Mathlib.Omega.{arith}
 use borrow.Author.Needs.{needs}
-use Rattle.proposal_run.specs.Turns.{entry-room, entry-sources, entry-tile, same-starts, entry-next, entry-ready, entry-done}
+use Rattle.proposal_run.specs.Turns.{entry-room, entry-sources, entry-tile, entry-next, entry-ready, entry-done}
 use Rattle.proposal_run.proofs.run_entry.Statement.{statement}
 use Rattle.proposal_run.proofs.run_entry.Tie as tie
 
 returns : tie.Need-returns
 returns c =
-    let taken = c .before .before .before .before .before .before .before .before .sources-alone .ensures in
-    entry-done _ _ _ _ _ (c .before .before .before .before .before .before .before .before .before .before .before .before .before .before .before .before .before .before .before .before .pre .0) _ (c .before .before .before .before .before .before .before .before .before .before .before .before .before .before .before .before .before .before .before .before .pre .1) _ (taken .1) _ (same-starts _ _ _ _ _ _ (taken .0) (c .before .before .before .before .before .before .before .before .before .before .before .stand-of .ensures .starts)) (c .before .before .before .before .before .before .before .before .before .new-starts .result) (c .before .before .before .before .before .before .before .before .before .new-starts .ensures) _ (c .before .before .before .before .plan-next .ensures)
-    _ _ (c .before .before .before .before .before .before .before .before .before .before .before .before .before .tile-to .ensures) _ _ (c .before .before .before .before .before .before .before .before .before .before .before .before .before .before .before .before .before .before .before .before .pre .2) _ refl (c .before .before .mend-unit .ensures)
+    let begun = c .before .before .before .before .before .before .before .before .before .before .before .before .before .before .before .before in
+    let new = c .before .before .before .before .before .before .before .new-starts in
+    entry-done _ _ _ _ _ (begun .pre .0) _ (begun .pre .1) _ (c .before .before .before .before .before .before .left-out .ensures) (new .result) (new .ensures) _ (c .before .before .before .before .plan-next .ensures)
+    _ _ (c .before .before .before .before .before .before .before .before .before .tile-to .ensures) _ _ (begun .pre .2) _ refl (c .before .before .mend-unit .ensures)
 
 mul-g : tie.Need-mul-g
 mul-g c = omega (arith, entry-room _ _ _ _ _ (c .before .before .pre .0))
@@ -34,25 +35,23 @@ div-tile c = search needs
 tile-to-requires : tie.Need-tile-to-requires
 tile-to-requires c κs = search needs
 
-stand-of-requires : tie.Need-stand-of-requires
-stand-of-requires c κs = entry-tile _ _ _ _ _ (c .before .before .before .before .before .before .before .before .pre .0) _ (c .before .tile-to .ensures)
-
 new-starts-requires : tie.Need-new-starts-requires
-new-starts-requires c κs = entry-tile _ _ _ _ _ (c .before .before .before .before .before .before .before .before .before .before .pre .0) _ (c .before .before .before .tile-to .ensures)
+new-starts-requires c κs = entry-tile _ _ _ _ _ (c .before .before .before .before .before .before .before .before .pre .0) _ (c .before .tile-to .ensures)
 
-add-sources-alone : tie.Need-add-sources-alone
-add-sources-alone c = omega (arith, c .before .before .before .before .before .before .before .before .before .before .before .good .1 .1 .1 .1 .0 .0, entry-room _ _ _ _ _ (c .before .before .before .before .before .before .before .before .before .before .before .pre .0))
+add-left-out : tie.Need-add-left-out
+add-left-out c = omega (arith, c .before .before .before .before .before .before .before .before .before .good .1 .1 .1 .1 .0 .0, entry-room _ _ _ _ _ (c .before .before .before .before .before .before .before .before .before .pre .0))
 
-sources-alone-requires : tie.Need-sources-alone-requires
-sources-alone-requires c κs = entry-sources _ _ _ _ _ (c .before .before .before .before .before .before .before .before .before .before .before .pre .0)
+left-out-requires : tie.Need-left-out-requires
+left-out-requires c κs = entry-sources _ _ _ _ _ (c .before .before .before .before .before .before .before .before .before .pre .0)
 
 plan-next-requires : tie.Need-plan-next-requires
-plan-next-requires c κs = entry-next _ _ _ _ _ (c .before .before .before .before .before .before .before .before .before .before .before .before .before .before .before .pre .0) _ (c .before .before .before .before .before .before .before .before .before .before .before .before .before .before .before .pre .1) _ (c .before .before .before .sources-alone .ensures .1)
+plan-next-requires c κs = entry-next _ _ _ _ _ (c .before .before .before .before .before .before .before .before .before .before .before .pre .0) _ (c .before .before .before .before .before .before .before .before .before .before .before .pre .1) _ (c .before .left-out .ensures)
 
 mend-unit-requires : tie.Need-mend-unit-requires
 mend-unit-requires c κs =
-    let taken = c .before .before .before .before .before .sources-alone .ensures in
-    entry-ready _ _ _ _ _ (c .before .before .before .before .before .before .before .before .before .before .before .before .before .before .before .before .before .pre .0) _ (c .before .before .before .before .before .before .before .before .before .before .before .before .before .before .before .before .before .pre .1) _ (taken .1) _ (same-starts _ _ _ _ _ _ (taken .0) (c .before .before .before .before .before .before .before .before .stand-of .ensures .starts)) (c .before .before .before .before .before .before .new-starts .result) (c .before .before .before .before .before .before .new-starts .ensures) _ (c .before .plan-next .ensures) _ (c .before .before .before .before .before .before .before .before .before .before .before .before .before .before .before .before .before .pre .2)
+    let begun = c .before .before .before .before .before .before .before .before .before .before .before .before .before in
+    let new = c .before .before .before .before .new-starts in
+    entry-ready _ _ _ _ _ (begun .pre .0) _ (begun .pre .1) _ (c .before .before .before .left-out .ensures) (new .result) (new .ensures) _ (c .before .plan-next .ensures) _ (begun .pre .2)
 
 same-length : tie.Need-same-length
 same-length c = search needs
@@ -68,10 +67,9 @@ run-entry-spec =
     shared-slice-read-c
     div-tile
     tile-to-requires
-    stand-of-requires
     new-starts-requires
-    add-sources-alone
-    sources-alone-requires
+    add-left-out
+    left-out-requires
     plan-next-requires
     mend-unit-requires
     same-length
