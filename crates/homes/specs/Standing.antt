@@ -9,7 +9,7 @@ use Rattle.numbers.specs.declared.Layout.{Layout}
 use Rattle.numbers.specs.declared.Shape.{Shape}
 use Rattle.numbers.specs.Layouts.{Valid, width, allGroups}
 use Rattle.numbers.specs.Answers.{Shaped}
-use Rattle.tile.specs.Permutation.{permutationOf}
+use Rattle.place.specs.Places.{tilePermutation}
 use Rattle.homes.specs.Listed.{listed}
 use Rattle.homes.specs.Homes.{homes}
 use Rattle.homes.specs.Records.{failed}
@@ -19,7 +19,7 @@ use Rattle.homes.specs.Missing.{targetAt}
 pub record InTile (y : Layout) (s : Shape) (to : List ℕ) (g : ℕ) : Type 0 where
   pub valid : Valid y
   pub shape : Shaped y s
-  pub tile : to ≡ permutationOf (y .p) (y .cookie) (g / s .c)
+  pub tile : to ≡ tilePermutation y (g / s .c)
   pub group : g < allGroups y
 
 -- `targets` are those of the units of group g

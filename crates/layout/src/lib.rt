@@ -88,7 +88,7 @@ pub fn tile_permutation(y: Layout, tile: u64) -> Entries
     }
     Entries {
         refusal: 0,
-        entries: tile::permutation(y.p, y.cookie, tile),
+        entries: place::permutation(y, tile),
     }
 }
 
@@ -105,7 +105,7 @@ pub fn tile_inverse(y: Layout, tile: u64) -> Entries
     }
     Entries {
         refusal: 0,
-        entries: tile::inverse(y.p, y.cookie, tile),
+        entries: place::inverse(y, tile),
     }
 }
 

@@ -10,14 +10,15 @@ use Rattle.numbers.specs.declared.Layout.{Layout}
 use Rattle.numbers.specs.declared.Shape.{Shape}
 use Rattle.numbers.specs.Layouts.{Valid, width, frames, allGroups}
 use Rattle.numbers.specs.Answers.{Shaped}
-use Rattle.tile.specs.Permutation.{permutationOf, inverseOf}
+use Rattle.tile.specs.Permutation.{inverseOf}
 use Rattle.place.specs.declared.Place.{Place}
+use Rattle.place.specs.Places.{tilePermutation}
 use Rattle.place.specs.PlaceLaws.{tiles}
 
 pub record Holding (y : Layout) (s : Shape) (from : List ℕ) (r t : ℕ) : Type 0 where
   pub valid : Valid y
   pub shape : Shaped y s
-  pub tile : from ≡ inverseOf (permutationOf (y .p) (y .cookie) (r / s .l))
+  pub tile : from ≡ inverseOf (tilePermutation y (r / s .l))
   pub frame : r < frames y
   pub target : t < y .p
 

@@ -2,6 +2,7 @@ pub mod Units
 pub mod UnitLaws
 pub mod Load
 pub mod Places
+pub mod TileLaws
 pub mod PlaceLaws
 pub mod Bytes
 pub mod ByteLaws

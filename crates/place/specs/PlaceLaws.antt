@@ -11,21 +11,21 @@ use Rattle.numbers.specs.declared.Shape.{Shape}
 use Rattle.numbers.specs.Answers.{Shaped}
 use Rattle.numbers.specs.Layouts.{Valid, width, rows, groups, frames, allGroups}
 use Rattle.numbers.specs.Shapes.{width-groups-rows, rows-pos, groups-pos}
-use Rattle.tile.specs.Permutation.{permutationOf, inverseOf}
-use Rattle.tile.specs.Laws.{permutation-inverse}
+use Rattle.tile.specs.Permutation.{inverseOf}
 use Rattle.place.specs.declared.Cell.{Cell}
 use Rattle.place.specs.declared.Place.{Place}
 use Rattle.place.specs.Units.{Tiled, targetOf, groupAt, unitAt}
 use Rattle.place.specs.UnitLaws as U
 use Rattle.place.specs.Load as L
-use Rattle.place.specs.Places.{widthsOf, targetsOf, columnsOf, cellOf, unitInRow, placeOf, unitOf}
+use Rattle.place.specs.TileLaws.{tile-undone}
+use Rattle.place.specs.Places.{widthsOf, tilePermutation, targetsOf, columnsOf, cellOf, unitInRow, placeOf, unitOf}
 
 module _ (y : Layout) (v : Valid y) where
   pub tiled : Tiled (widthsOf y)
   tiled = record { units = omega arith; enough = v .enough-targets; rows = rows-pos y v; groups = groups-pos y v; whole = width-groups-rows y v }
 
   pub tiles : (tile : ℕ) → Bijection (y .p) (targetsOf y tile) (columnsOf y tile)
-  tiles tile = permutation-inverse (y .p) (y .cookie) tile (omega arith) (v .few-targets) (y .p) (le-refl (y .p)) (v .few-targets)
+  tiles tile = tile-undone y v tile (y .p) (le-refl (y .p)) (v .few-targets)
 
   -- the two maps undo each other over the whole pool
   pub there-and-back : (g u : ℕ) → u < width y → unitOf y (placeOf y g u .frame) (placeOf y g u .target) ≡ record { group = g; unit = u }
@@ -50,7 +50,7 @@ module _ (y : Layout) (v : Valid y) where
       λ i. record { frame = q .0 i; column = q .1 i }
 
   -- what the permutation in hand makes of a unit's cell is the unit's place
-  pub place-at : (s : Shape) → Shaped y s → (to : List ℕ) (g u : ℕ) (a : Cell) (r : Place) → to ≡ permutationOf (y .p) (y .cookie) (g / s .c) → a ≡ cellOf y g u
+  pub place-at : (s : Shape) → Shaped y s → (to : List ℕ) (g u : ℕ) (a : Cell) (r : Place) → to ≡ tilePermutation y (g / s .c) → a ≡ cellOf y g u
       → (r .frame ≡ a .frame) × (r .target ≡ at to (a .column)) → r ≡ placeOf y g u
   unfolding cellOf placeOf targetOf
   place-at s z to g u a r t e h =
@@ -59,7 +59,7 @@ module _ (y : Layout) (v : Valid y) where
       ∙ ap (λ (c : ℕ). record { frame = cellOf y g u .frame; target = targetsOf y (g / c) (cellOf y g u .column) }) (z .c-is)
 
   -- and the unit in a row of the tile whose inverse is in hand, at the target's column there, is the unit in that frame of the target
-  pub unit-in-row : (s : Shape) → Shaped y s → (from : List ℕ) (r t : ℕ) → from ≡ inverseOf (permutationOf (y .p) (y .cookie) (r / s .l))
+  pub unit-in-row : (s : Shape) → Shaped y s → (from : List ℕ) (r t : ℕ) → from ≡ inverseOf (tilePermutation y (r / s .l))
       → unitInRow y (r / s .l) (r % s .l) (at from t) ≡ unitOf y r t
   unfolding unitInRow unitOf groupAt unitAt
   unit-in-row s z from r t e =

@@ -1,4 +1,5 @@
 -- "Places" of a layout: each tile's permutation is the generator's.
+use mathlib.Core.List.{List}
 use Prim.Native.Nat.{ℕ, _+_, _*_, _/_, _%_}
 use Rattle.lists.specs.Tabulate.{at}
 use Rattle.numbers.specs.declared.Layout.{Layout}
@@ -12,12 +13,16 @@ use Rattle.place.specs.Units.{Widths, columnOf, frameOf, targetOf, group
 abbrev pub widthsOf : Layout → Widths
 widthsOf y = record { w = width y; p = y .p; l = rows y; c = groups y }
 
+-- the permutation of a tile of the layout: all that stands on permutations knows them by this name
+unfoldable pub tilePermutation : Layout → ℕ → List ℕ
+tilePermutation y tile = permutationOf (y .p) (y .cookie) tile
+
 -- the target of each column of a tile, and the column of each target
 abbrev pub targetsOf : Layout → ℕ → ℕ → ℕ
-targetsOf y tile column = at (permutationOf (y .p) (y .cookie) tile) column
+targetsOf y tile column = at (tilePermutation y tile) column
 
 abbrev pub columnsOf : Layout → ℕ → ℕ → ℕ
-columnsOf y tile target = at (inverseOf (permutationOf (y .p) (y .cookie) tile)) target
+columnsOf y tile target = at (inverseOf (tilePermutation y tile)) target
 
 -- the cell of unit u of group g
 unfoldable pub cellOf : Layout → ℕ → ℕ → Cell

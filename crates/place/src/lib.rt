@@ -6,7 +6,8 @@ ghost use Prim.Native.Nat.{ℕ, _+_, _<_};
 ghost use Rattle.lists.specs.Tabulate.{at};
 ghost use Rattle.numbers.specs.Layouts.{Valid, width, frames, allGroups, imageLength};
 ghost use Rattle.numbers.specs.Answers.{Shaped};
-ghost use Rattle.place.specs.Places.{cellOf, placeOf, unitInRow, unitOf};
+ghost use Rattle.tile.specs.Permutation.{inverseOf};
+ghost use Rattle.place.specs.Places.{tilePermutation, cellOf, placeOf, unitInRow, unitOf};
 ghost use Rattle.place.specs.Bytes.{spotOf};
 ghost use Rattle.place.specs.Asked.{Holding};
 
@@ -103,6 +104,22 @@ pub fn unit_in(y: Layout, s: Shape, from: &[u8; 64], r: u64, t: u64) -> Unit
     unit_at(y, s, r / l, r % l, from[target] as u64)
 }
 
+// The target of each column of a tile. Whoever needs a tile's permutation has it from here, or from `inverse`.
+pub fn permutation(y: Layout, tile: u64) -> [u8; 64]
+    requires { ⌜ Valid y ⌝ }
+    ensures { λ r. ⌜ r ≡ tilePermutation y tile ⌝ }
+{
+    tile::permutation(y.p, y.cookie, tile)
+}
+
+// The column of each target of a tile.
+pub fn inverse(y: Layout, tile: u64) -> [u8; 64]
+    requires { ⌜ Valid y ⌝ }
+    ensures { λ r. ⌜ r ≡ inverseOf (tilePermutation y tile) ⌝ }
+{
+    tile::inverse(y.p, y.cookie, tile)
+}
+
 // The place of unit u of group g, working out the permutation too.
 pub fn place_of(y: Layout, s: Shape, g: u64, u: u64) -> Place
     requires { ⌜ Valid y × Shaped y s × (g < allGroups y) × (u < width y) ⌝ }
@@ -110,7 +127,7 @@ pub fn place_of(y: Layout, s: Shape, g: u64, u: u64) -> Place
 {
     let a = cell_of(y, s, g, u);
     let tile = g / s.c;
-    let to = tile::permutation(y.p, y.cookie, tile);
+    let to = permutation(y, tile);
     place_at(&to, a)
 }
 
@@ -119,7 +136,7 @@ pub fn unit_of(y: Layout, s: Shape, r: u64, t: u64) -> Unit
     requires { ⌜ Valid y × Shaped y s × (r < frames y) × (t < y .p) ⌝ }
     ensures { λ q. ⌜ q ≡ unitOf y r t ⌝ }
 {
-    let from = tile::inverse(y.p, y.cookie, r / s.l);
+    let from = inverse(y, r / s.l);
     unit_in(y, s, &from, r, t)
 }
 

@@ -16,7 +16,7 @@ use Rattle.tile.specs.Generator.{startOf, nextOf, drawOf}
 use Rattle.tile.specs.Permutation.{own, exchange, shuffleOf, permutationOf, indexOf, inverseOf}
 use Rattle.place.specs.declared.Place.{Place}
 use Rattle.place.specs.Units.{frameOf, targetOf, groupAt, unitAt}
-use Rattle.place.specs.Places.{placeOf, unitOf}
+use Rattle.place.specs.Places.{tilePermutation, placeOf, unitOf}
 use Rattle.place.specs.Bytes.{groupOf, unitIn, byteIn, spotOf, imageByte}
 use Rattle.field.specs.Byte.{_⊕_, mul, mulDigits, double, scale, inv, powerDigits, div}
 use Rattle.field.specs.Sum.{sumTo}
@@ -86,5 +86,5 @@ pub examples :
     × (lost 0 ∷ lost 1 ∷ lost 2 ∷ lost 3 ∷ [] ≡ (false ∷ false ∷ []) ∷ (false ∷ false ∷ []) ∷ (true ∷ false ∷ []) ∷ (false ∷ true ∷ []) ∷ [])
     × (newHome 2 0 ∷ newHome 3 1 ∷ [] ≡ at 2 2 ∷ at 2 0 ∷ [])
     × (dataOn 0 3 ∷ dataOn 3 0 ∷ dataOn 4 0 ∷ [] ≡ 4 ∷ 4 ∷ 3 ∷ [])
-unfolding count sum tabulate _orElse_ refusalBy gcd gcdIn lcm block rows groups validb layoutRefusal startOf nextOf drawOf own exchange shuffleOf permutationOf indexOf inverseOf frameOf targetOf groupAt unitAt placeOf unitOf groupOf unitIn byteIn spotOf imageByte any all lowest listed free move homes recordGood home missing onTarget otherwise failRefusal failRecord _⊕_ mul mulDigits double scale inv powerDigits div coef sumTo parityOf content contentByte encodedOf encodeRefusal encoded
+unfolding count sum tabulate _orElse_ refusalBy gcd gcdIn lcm block rows groups validb layoutRefusal startOf nextOf drawOf own exchange shuffleOf permutationOf tilePermutation indexOf inverseOf frameOf targetOf groupAt unitAt placeOf unitOf groupOf unitIn byteIn spotOf imageByte any all lowest listed free move homes recordGood home missing onTarget otherwise failRefusal failRecord _⊕_ mul mulDigits double scale inv powerDigits div coef sumTo parityOf content contentByte encodedOf encodeRefusal encoded
 examples = (refl, refl, refl, refl, refl, refl, refl, refl, refl, refl, refl, refl, refl, refl, refl, refl, refl, refl)

@@ -9,12 +9,12 @@ use Rattle.lists.specs.Count.{sum}
 use Rattle.numbers.specs.declared.Layout.{Layout}
 use Rattle.numbers.specs.Layouts.{Valid, width, block, rows, groups, frames, allGroups, capacity, imageLength}
 use Rattle.numbers.specs.Shapes.{width-groups, targets-rows, block-multiple, block-least, layout-products}
-use Rattle.tile.specs.Permutation.{permutationOf, inverseOf}
-use Rattle.tile.specs.Laws.{permutation-own}
+use Rattle.tile.specs.Permutation.{inverseOf}
 use Rattle.place.specs.Units.{Widths, Tiled, frameOf, targetOf, groupAt, unitAt}
 use Rattle.place.specs.UnitLaws as U
 use Rattle.place.specs.Load as L
-use Rattle.place.specs.Places.{widthsOf, targetsOf, columnsOf, placeOf, unitOf}
+use Rattle.place.specs.Places.{widthsOf, tilePermutation, targetsOf, columnsOf, placeOf, unitOf}
+use Rattle.place.specs.TileLaws.{tile-above}
 use Rattle.place.specs.PlaceLaws as P
 use Rattle.place.specs.Bytes.{groupOf, unitIn, byteIn, offsetOf, spot, imageByte, unitHere, offsetHere}
 use Rattle.place.specs.ByteLaws as B
@@ -61,11 +61,11 @@ module _ (y : Layout) (valid : Valid y) where
   all-fit = let p = layout-products y valid in (omega (arith, p .frames), omega (arith, p .groups), omega (arith, p .capacity), omega (arith, p .image))
 
   -- a tile's permutation is a bijection of 0 .. P-1, and the inverse undoes it both ways; entries from P on are their own index
-  pub permutation-undone : (tile : ℕ) → Bijection (y .p) (at (permutationOf (y .p) (y .cookie) tile)) (at (inverseOf (permutationOf (y .p) (y .cookie) tile)))
+  pub permutation-undone : (tile : ℕ) → Bijection (y .p) (at (tilePermutation y tile)) (at (inverseOf (tilePermutation y tile)))
   permutation-undone = P.tiles y valid
 
-  pub permutation-above : (tile t : ℕ) → y .p ≤ t → t < 64 → at (permutationOf (y .p) (y .cookie) tile) t ≡ t
-  permutation-above tile = permutation-own (y .p) (y .cookie) tile (omega arith) (valid .few-targets)
+  pub permutation-above : (tile t : ℕ) → y .p ≤ t → t < 64 → at (tilePermutation y tile) t ≡ t
+  permutation-above = tile-above y valid
 
   -- over the whole pool: a unit's place is in the pool, and the unit there is that unit
   pub there-and-back : (g u : ℕ) → g < allGroups y → u < width y

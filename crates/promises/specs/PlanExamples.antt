@@ -13,7 +13,7 @@ use Rattle.numbers.specs.Layouts.{block, rows, groups}
 use Rattle.tile.specs.Generator.{startOf, nextOf, drawOf}
 use Rattle.tile.specs.Permutation.{own, exchange, shuffleOf, permutationOf}
 use Rattle.place.specs.Units.{frameOf, targetOf}
-use Rattle.place.specs.Places.{placeOf}
+use Rattle.place.specs.Places.{tilePermutation, placeOf}
 use Rattle.homes.specs.declared.Record.{Record}
 use Rattle.homes.specs.Listed.{listed}
 use Rattle.homes.specs.Homes.{free, move, homes}
@@ -68,5 +68,5 @@ pub plan-examples :
     × (planGood wider failed2 (0 ∷ 0 ∷ 1 ∷ 2 ∷ []) ≡ true)
     × (planGood wider failed2 (0 ∷ 0 ∷ 2 ∷ 1 ∷ []) ≡ true)
     × (planGood wider failed2 (0 ∷ 0 ∷ 1 ∷ 1 ∷ []) ≡ false)
-unfolding tabulate count sum those any all lowest gcd gcdIn lcm block rows groups startOf nextOf drawOf own exchange shuffleOf permutationOf frameOf targetOf placeOf listed free move homes home missing entries numberOf names namedOnce eachOnce sourceGood sourcesGood namesMissing planGood missingPair missingUnits groupDrawn contentDrawn entryNumber drawnPlan
+unfolding tabulate count sum those any all lowest gcd gcdIn lcm block rows groups startOf nextOf drawOf own exchange shuffleOf permutationOf tilePermutation frameOf targetOf placeOf listed free move homes home missing entries numberOf names namedOnce eachOnce sourceGood sourcesGood namesMissing planGood missingPair missingUnits groupDrawn contentDrawn entryNumber drawnPlan
 plan-examples = (refl, refl, refl, refl, refl, refl, refl, refl, refl, refl, refl, refl, refl, refl, refl, refl, refl)

@@ -85,7 +85,7 @@ fn window_good(y: Layout, s: Shape, r: Record, groups: u64, plan: &[u64], w: u64
     let len = plan.len();
     let mut marks = [0u8; 65536];
     let mut tile = (65536 * w) / s.c;
-    let mut to = tile::permutation(y.p, y.cookie, tile);
+    let mut to = place::permutation(y, tile);
     let mut at: usize = 0;
     while at < len {
         let next = at + size;

@@ -79,7 +79,7 @@ pub fn draw(y: Layout, r: Record, out: &mut [u64], needed: usize)
 {
     let s = numbers::shape_of(y);
     let mut tile: u64 = 0;
-    let mut to = tile::permutation(y.p, y.cookie, 0);
+    let mut to = place::permutation(y, 0);
     let mut g: u64 = 0;
     let mut at: usize = 0;
     while at < needed {

@@ -16,7 +16,7 @@ use Rattle.numbers.specs.declared.Layout.{Layout}
 use Rattle.numbers.specs.declared.Shape.{Shape}
 use Rattle.numbers.specs.Layouts.{Valid, imageLength}
 use Rattle.numbers.specs.Answers.{Shaped}
-use Rattle.tile.specs.Permutation.{permutationOf}
+use Rattle.place.specs.Places.{tilePermutation}
 use Rattle.parity.specs.Matrix.{flag}
 use Rattle.parity.specs.Group.{Solvable}
 use Rattle.homes.specs.declared.Record.{Record}
@@ -127,7 +127,7 @@ module _ (y : Layout) (s : Shape) (R : Record) (plan : List ℕ) (a : ℕ) (e : 
       left .are u (omega (arith, h, e .valid .few-data, e .valid .few-parity))
       ∙ ap not (listed-same (sourceFrom plan (a + 2)) (source y plan (entryAt y a)) (y .n) u (λ j b. source-read j))
 
-  pub entry-tile : (to : List ℕ) → to ≡ permutationOf (y .p) (y .cookie) (at plan a / s .c) → Good y R × InTile y s to (at plan a)
+  pub entry-tile : (to : List ℕ) → to ≡ tilePermutation y (at plan a / s .c) → Good y R × InTile y s to (at plan a)
   entry-tile to q = (
     e .good,
     record {
@@ -162,7 +162,7 @@ module _ (y : Layout) (s : Shape) (R : Record) (plan : List ℕ) (a : ℕ) (e : 
       omega (arith, content-read y s R plan a e, e .accepts .content-lt (entryAt y a) (e .entry-lt), planned .n-is, planned .k-is),
     )
 
-    pub entry-done : (tile : ℕ) (to : List ℕ) → to ≡ permutationOf (y .p) (y .cookie) tile → (img img′ : List ℕ) → length img ≡ imageLength y → (c : ℕ) → c ≡ at plan (a + 1)
+    pub entry-done : (tile : ℕ) (to : List ℕ) → to ≡ tilePermutation y tile → (img img′ : List ℕ) → length img ≡ imageLength y → (c : ℕ) → c ≡ at plan (a + 1)
         → img′ ≡ pick (missOf Q c) (runSet (getD homes c 0) (Q .u) (heldRun Q img 0 c) img) img
         → Surveying y (record { tile = tile; to = to; plan = Q }) × (img′ ≡ entryImage y R plan (entryAt y a) img)
     entry-done tile to t img img′ len c ec q = (

@@ -21,7 +21,7 @@ use Rattle.pool.specs.Holds.{solvable}
 use Rattle.plan.specs.declared.Plan.{Plan}
 use Rattle.plan.specs.Plans.{atOf, missOf, Right, Fits, Apart, column, held}
 use Rattle.plan.specs.Same.{missing-same}
-use Rattle.tile.specs.Permutation.{permutationOf}
+use Rattle.place.specs.Places.{tilePermutation}
 use Rattle.survey.specs.declared.Survey.{Survey}
 
 pub record Surveyed (y : Layout) (R : Record) (j g : ℕ) (P : Plan) : Type 0 where
@@ -34,7 +34,7 @@ pub record Surveyed (y : Layout) (R : Record) (j g : ℕ) (P : Plan) : Type 0 wh
 
 -- while one group after another is looked at: the permutation in hand is that of its tile, and the plan's numbers are the layout's
 pub record Surveying (y : Layout) (w : Survey) : Type 0 where
-  pub to-is : w .to ≡ permutationOf (y .p) (y .cookie) (w .tile)
+  pub to-is : w .to ≡ tilePermutation y (w .tile)
   pub n-is : w .plan .n ≡ y .n
   pub k-is : w .plan .k ≡ y .k
   pub u-is : w .plan .u ≡ y .u

@@ -11,7 +11,7 @@ ghost use Prim.Native.Nat.{ℕ, _≤_, _<_};
 ghost use lib.ListN.{getD};
 ghost use Rattle.numbers.specs.Layouts.{Valid, contents, allGroups};
 ghost use Rattle.numbers.specs.Answers.{Shaped};
-ghost use Rattle.tile.specs.Permutation.{permutationOf};
+ghost use Rattle.place.specs.Places.{tilePermutation};
 ghost use Rattle.place.specs.Bytes.{spot};
 ghost use Rattle.homes.specs.Standing.{InTile};
 ghost use Rattle.homes.specs.Records.{failed, Good};
@@ -161,20 +161,20 @@ pub fn begin(y: Layout, s: Shape, g: u64) -> Survey
     ensures { λ w. ⌜ Surveying y w ⌝ }
 {
     let tile = g / s.c;
-    let to = tile::permutation(y.p, y.cookie, tile);
+    let to = place::permutation(y, tile);
     let plan = plan::plan_whole(y.n as usize, y.k as usize, y.u as usize, [0usize; 19]);
     Survey { tile, to, plan }
 }
 
 // The permutation of a tile: the one in hand, or another.
 pub fn tile_to(y: Layout, last: u64, to: [u8; 64], tile: u64) -> [u8; 64]
-    requires { ⌜ Valid y × (to ≡ permutationOf (y .p) (y .cookie) last) ⌝ }
-    ensures { λ r. ⌜ r ≡ permutationOf (y .p) (y .cookie) tile ⌝ }
+    requires { ⌜ Valid y × (to ≡ tilePermutation y last) ⌝ }
+    ensures { λ r. ⌜ r ≡ tilePermutation y tile ⌝ }
 {
     if last == tile {
         return to;
     }
-    tile::permutation(y.p, y.cookie, tile)
+    place::permutation(y, tile)
 }
 
 // The plan of group g. Where no target has failed, as mostly, there is nothing to look for but where the units begin; where all that failed are

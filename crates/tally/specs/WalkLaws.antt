@@ -3,7 +3,6 @@ use mathlib.Core.Path.{_≡_, refl, sym, ap, _∙_, subst}
 use mathlib.Core.Bool.{Bool, true, false}
 use mathlib.Core.List.{List}
 use Prim.Native.Nat.{ℕ, _+_, _*_, _/_, _≤_, _<_}
-use native.Mathlib.Nat.{le-refl}
 use native.Mathlib.Omega.{arith}
 use lib.Dec.{ltb}
 use lib.ListN.{length}
@@ -15,12 +14,13 @@ use Rattle.lists.specs.Count.{sum, count-blocks, count-next}
 use Rattle.numbers.specs.declared.Layout.{Layout}
 use Rattle.numbers.specs.declared.Shape.{Shape}
 use Rattle.numbers.specs.Layouts.{Valid, width, rows, groups, frames, contents}
-use Rattle.tile.specs.Permutation.{permutationOf, inverseOf}
-use Rattle.tile.specs.Laws.{Permutes, permutation-length, permutation-bijection}
+use Rattle.tile.specs.Permutation.{inverseOf}
+use Rattle.tile.specs.Laws.{Permutes}
 use Rattle.place.specs.declared.Place.{Place}
 use Rattle.place.specs.declared.Unit.{Unit}
 use Rattle.place.specs.UnitLaws.{frame-tile}
-use Rattle.place.specs.Places.{widthsOf, columnsOf, placeOf, unitInRow, unitOf}
+use Rattle.place.specs.TileLaws.{tile-length, tile-permutes}
+use Rattle.place.specs.Places.{tilePermutation, widthsOf, columnsOf, placeOf, unitInRow, unitOf}
 use Rattle.place.specs.PlaceLaws.{tiled, tiles, unit-in, unit-in-row, back-and-there}
 use Rattle.homes.specs.declared.Record.{Record}
 use Rattle.homes.specs.Listed.{listed, listed-same}
@@ -66,14 +66,12 @@ group-tile y v r t ht hr =
     ∙ ap (λ (a : Place). a .frame / rows y) (back-and-there y v r t ht)
 
 -- the target's column is found in the permutation of the tile
-module _ (y : Layout) (s : Shape) (R : Record) (t : ℕ) (w : Walking y s R t) (tile : ℕ) (to : List ℕ) (e : to ≡ permutationOf (y .p) (y .cookie) tile) where
+module _ (y : Layout) (s : Shape) (R : Record) (t : ℕ) (w : Walking y s R t) (tile : ℕ) (to : List ℕ) (e : to ≡ tilePermutation y tile) where
   pub can-search : (length to ≡ 64) × Permutes 64 to × (t < 64)
   can-search =
-      let v = w .valid in
-      let some : 1 ≤ y .p = omega arith in
       subst (λ (l : List ℕ). (length l ≡ 64) × Permutes 64 l × (t < 64)) (sym e) (
-        permutation-length (y .p) (y .cookie) tile some (v .few-targets),
-        permutation-bijection (y .p) (y .cookie) tile some (v .few-targets) 64 (v .few-targets) (le-refl 64),
+        tile-length y (w .valid) tile,
+        tile-permutes y (w .valid) tile,
         omega (arith, w .target-lt),
       )
 
@@ -95,9 +93,9 @@ module _ (y : Layout) (s : Shape) (R : Record) (t : ℕ) (w : Walking y s R t) (
   unit-there column q =
       ap (unitInRow y tile row) q
       ∙ sym (λ i. unitInRow y (div-of (s .l) tile hr i) (mod-of (s .l) tile hr i) (columnsOf y (div-of (s .l) tile hr i) t))
-      ∙ unit-in-row y (w .valid) s (w .shape) (inverseOf (permutationOf (y .p) (y .cookie) ((s .l * tile + row) / s .l))) (s .l * tile + row) t refl
+      ∙ unit-in-row y (w .valid) s (w .shape) (inverseOf (tilePermutation y ((s .l * tile + row) / s .l))) (s .l * tile + row) t refl
 
-  pub unit-here : (to : List ℕ) → to ≡ permutationOf (y .p) (y .cookie) tile → (a : Unit) → a ≡ unitOf y (s .l * tile + row) t → Here y s R to a
+  pub unit-here : (to : List ℕ) → to ≡ tilePermutation y tile → (a : Unit) → a ≡ unitOf y (s .l * tile + row) t → Here y s R to a
   unit-here to e a q =
       subst (λ (x : Unit). Here y s R to x) (sym q)
       (record {
@@ -108,7 +106,7 @@ module _ (y : Layout) (s : Shape) (R : Record) (t : ℕ) (w : Walking y s R t) (
               shape = w .shape;
               tile =
                   e
-                  ∙ ap (permutationOf (y .p) (y .cookie))
+                  ∙ ap (tilePermutation y)
                   (sym (ap (λ (c : ℕ). unitOf y (s .l * tile + row) t .group / c) (w .shape .c-is)
                   ∙ group-tile y (w .valid) (s .l * tile + row) t (w .target-lt) frame-in
                   ∙ ap (λ (l : ℕ). (s .l * tile + row) / l) (sym (w .shape .l-is))

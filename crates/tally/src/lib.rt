@@ -46,7 +46,7 @@ fn in_tile(y: Layout, s: Shape, r: Record, target: u64, tile: u64) -> u64
     requires { ⌜ Walking y s r target × (tile < y .t) ⌝ }
     ensures { λ n. ⌜ (n ≡ inTileOf y r target tile) × (n ≤ s .l) ⌝ }
 {
-    let to = tile::permutation(y.p, y.cookie, tile);
+    let to = place::permutation(y, tile);
     let column = tile::column_of(&to, target);
     let rows = s.l;
     let mut n: u64 = 0;

@@ -2,7 +2,6 @@
 use mathlib.Core.Path.{sym, ap, _∙_}
 use mathlib.Core.List.{List}
 use Prim.Native.Nat.{ℕ}
-use native.Mathlib.Omega.{arith}
 use borrow.Author.Needs.{needs}
 use Rattle.lists.specs.Refusal.{refused-answer, accepted-answer}
 use Rattle.lists.specs.Tabulate.{tabulate, zeros}
@@ -23,7 +22,7 @@ unfolding invertedOf tabulate
 returns c = refused-answer (λ (n : ℕ). answer n (zeros 64)) _ (c .before .tile-refusal .ensures) (c .if1 .taken)
 
 inverse-requires : tie.Need-inverse-requires
-inverse-requires c κs = let a = tile-asked _ _ (sym (c .before .tile-refusal .ensures) ∙ c .if1 .left) in omega (arith, a .0)
+inverse-requires c κs = tile-asked _ _ (sym (c .before .tile-refusal .ensures) ∙ c .if1 .left) .0
 
 returns-2 : tie.Need-returns-2
 unfolding invertedOf

@@ -4,14 +4,14 @@ use Prim.Native.Nat.{_+_, _-_, _%_, _≤_, _<_}
 use native.Mathlib.Omega.{arith}
 use borrow.Author.Needs.{needs}
 use lib.ListN.{length, getD}
-use Rattle.tile.specs.Permutation.{permutationOf}
+use Rattle.place.specs.Places.{tilePermutation}
 use Rattle.proposal.specs.Plans.{entrySize}
 use Rattle.proposal_check.specs.Steps.{Passing, pass-begin, pass-end, entry-room, pass-outside, pass-by, pass-bad, weight-fits, pass-twice, pass-in}
 use Rattle.proposal_check.proofs.window_good.Statement.{statement}
 use Rattle.proposal_check.proofs.window_good.Tie as tie
 
 abbrev Inv-loop : tie.InvT-loop
-Inv-loop y s r groups plan w size len marks₀ tile₀ to₀ at₀ marks tile to at = (to ≡ permutationOf (y .p) (y .cookie) tile) × Passing y r plan w at marks
+Inv-loop y s r groups plan w size len marks₀ tile₀ to₀ at₀ marks tile to at = (to ≡ tilePermutation y tile) × Passing y r plan w at marks
 
 abbrev μ-loop : tie.MeasureT-loop
 μ-loop y s r groups plan w size len marks₀ tile₀ to₀ at₀ marks tile to at = len - at
@@ -26,7 +26,7 @@ div-tile : tie.Need-div-tile Inv-loop μ-loop
 div-tile c = omega (arith, c .before .before .pre .shape .c-some)
 
 permutation-requires : tie.Need-permutation-requires Inv-loop μ-loop
-permutation-requires c κs = let v = c .before .before .pre .valid in (omega arith, omega arith)
+permutation-requires c κs = c .before .before .pre .valid
 
 loop-holds : tie.Need-loop-holds Inv-loop μ-loop
 loop-holds c = (c .permutation .ensures, pass-begin _ _ _ _ _ _ (c .before .before .before .pre))

@@ -6,13 +6,13 @@ use native.Mathlib.Omega.{arith}
 use borrow.Author.Needs.{needs}
 use Rattle.numbers.specs.Layouts.{allGroups}
 use Rattle.numbers.specs.Shapes.{layout-products}
-use Rattle.tile.specs.Permutation.{permutationOf}
+use Rattle.place.specs.Places.{tilePermutation}
 use Rattle.proposal_draw.specs.Drawn.{PlanTo, plan-begin, group-left, plan-turn, plan-end}
 use Rattle.proposal_draw.proofs.draw.Statement.{statement}
 use Rattle.proposal_draw.proofs.draw.Tie as tie
 
 abbrev Inv-loop : tie.InvT-loop
-Inv-loop y r out₀ needed s tile₀ to₀ g₀ at₀ out tile to g at = (to ≡ permutationOf (y .p) (y .cookie) tile) × PlanTo y r out₀ g at out
+Inv-loop y r out₀ needed s tile₀ to₀ g₀ at₀ out tile to g at = (to ≡ tilePermutation y tile) × PlanTo y r out₀ g at out
 
 abbrev μ-loop : tie.MeasureT-loop
 μ-loop y r out₀ needed s tile₀ to₀ g₀ at₀ out tile to g at = allGroups y - g

@@ -1,12 +1,12 @@
 -- `survey::tile_to` meets its contract: the tile in hand is the one asked for, or the permutation is worked out.
 use mathlib.Core.Path.{ap, _∙_}
-use Rattle.tile.specs.Permutation.{permutationOf}
+use Rattle.place.specs.Places.{tilePermutation}
 use borrow.Author.Needs.{needs}
 use Rattle.survey.proofs.tile_to.Statement.{statement}
 use Rattle.survey.proofs.tile_to.Tie as tie
 
 returns : tie.Need-returns
-returns c = c .before .pre .1 ∙ ap (permutationOf (c .before .args .y .p) (c .before .args .y .cookie)) (c .if1 .taken)
+returns c = c .before .pre .1 ∙ ap (tilePermutation (c .before .args .y)) (c .if1 .taken)
 
 permutation-requires : tie.Need-permutation-requires
 permutation-requires c κs = search needs
