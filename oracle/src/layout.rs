@@ -6,9 +6,12 @@
 //! and P (the greatest common divisor by Euclid's rule), L = B/P rows and
 //! C = B/W groups in a tile. A target has L·T frames; the file has capacity
 //! T·C·N·U bytes; the image has exactly P·L·T·U bytes."
+//!
+//! Document 02, order 8: "The layout carries an edition, 1 or 2; another is
+//! refused with 1."
 
-/// The six numbers of a layout, any 64-bit values.
-#[derive(Clone, Copy, Debug, PartialEq, Eq)]
+/// The seven numbers of a layout, any 64-bit values.
+#[derive(Clone, Copy, Debug, Default, PartialEq, Eq)]
 pub struct Layout {
     /// N, the data units of a group.
     pub n: u64,
@@ -22,9 +25,12 @@ pub struct Layout {
     pub t: u64,
     /// The cookie that the permutations start from.
     pub cookie: u64,
+    /// The edition of the permutation.
+    pub edition: u64,
 }
 
-/// The six numbers in document 01's order, as the programs print them.
+/// The six numbers in document 01's order, then the edition, as the programs
+/// print them.
 impl std::fmt::Display for Layout {
     fn fmt(&self, f: &mut std::fmt::Formatter<'_>) -> std::fmt::Result {
         let Layout {
@@ -34,8 +40,9 @@ impl std::fmt::Display for Layout {
             u,
             t,
             cookie,
+            edition,
         } = self;
-        write!(f, "{n} {k} {p} {u} {t} {cookie}")
+        write!(f, "{n} {k} {p} {u} {t} {cookie} {edition}")
     }
 }
 
@@ -69,7 +76,8 @@ pub fn gcd(a: u64, b: u64) -> u64 {
     }
 }
 
-/// Makes a layout from N, K, P, U, T and cookie, in this order.
+/// Makes a layout of edition 1, document 01's, from N, K, P, U, T and cookie,
+/// in this order.
 pub fn layout(n: u64, k: u64, p: u64, u: u64, t: u64, cookie: u64) -> Layout {
     Layout {
         n,
@@ -78,6 +86,7 @@ pub fn layout(n: u64, k: u64, p: u64, u: u64, t: u64, cookie: u64) -> Layout {
         u,
         t,
         cookie,
+        edition: 1,
     }
 }
 
@@ -90,7 +99,8 @@ impl Layout {
             && width <= u128::from(self.p)
             && self.p <= 64
             && (1..=4096).contains(&self.u)
-            && (1..=65_536).contains(&self.t);
+            && (1..=65_536).contains(&self.t)
+            && (1..=2).contains(&self.edition);
         u64::from(!fits)
     }
 
@@ -118,6 +128,11 @@ impl Layout {
     /// The derived numbers alone.
     pub fn derived(&self) -> Numbers {
         self.numbers().1
+    }
+
+    /// The same layout in another edition.
+    pub fn in_edition(self, edition: u64) -> Layout {
+        Layout { edition, ..self }
     }
 
     /// N+K of an accepted layout: "Data and parity are the contents."
@@ -152,7 +167,19 @@ mod tests {
     #[test]
     fn all_ones_are_refused() {
         let m = u64::MAX;
-        assert_eq!(layout(m, m, m, m, m, m).numbers(), (1, Numbers::default()));
+        let ones = layout(m, m, m, m, m, m).in_edition(m);
+        assert_eq!(ones.numbers(), (1, Numbers::default()));
         assert_eq!(layout(2, m, 4, 1, 1, 0).refusal(), 1);
+    }
+
+    #[test]
+    fn an_edition_is_1_or_2() {
+        let shape = layout(1, 1, 4, 4, 1, 0);
+        assert_eq!(shape.edition, 1);
+        assert_eq!(shape.in_edition(2).numbers(), shape.numbers());
+        for edition in [0, 3, 1 << 8 | 1, 1 << 32 | 1, 1 << 63 | 2, u64::MAX] {
+            let refused = shape.in_edition(edition);
+            assert_eq!(refused.numbers(), (1, Numbers::default()));
+        }
     }
 }

@@ -211,7 +211,8 @@ mod tests {
     fn the_two_maps_undo_each_other() {
         for shape in [
             layout(4, 2, 20, 3, 3, 9),
-            layout(3, 1, 7, 1, 2, u64::MAX),
+            layout(4, 2, 20, 3, 3, 9).in_edition(2),
+            layout(3, 1, 7, 1, 2, u64::MAX).in_edition(2),
             layout(16, 3, 22, 1, 2, 5),
         ] {
             let numbers = shape.derived();
@@ -230,13 +231,14 @@ mod tests {
 
     /// Whole pools: with and without parity, U from 1, several tiles, groups
     /// that cross rows, P a multiple of W and not.
-    fn small_pools() -> [Layout; 6] {
+    fn small_pools() -> [Layout; 7] {
         [
             layout(1, 0, 1, 1, 1, 0),
             layout(1, 1, 4, 4, 1, 0),
-            layout(4, 2, 20, 3, 3, 9),
+            layout(1, 1, 4, 4, 1, 0).in_edition(2),
+            layout(4, 2, 20, 3, 3, 9).in_edition(2),
             layout(3, 1, 7, 1, 2, u64::MAX),
-            layout(2, 3, 9, 5, 4, 1 << 63),
+            layout(2, 3, 9, 5, 4, 1 << 63).in_edition(2),
             layout(16, 3, 22, 2, 2, 5),
         ]
     }
@@ -302,12 +304,17 @@ mod tests {
 
     #[test]
     fn a_tile_gives_every_target_l_units_on_different_targets() {
-        let shape = layout(4, 2, 20, 1, 1, 77);
+        for edition in [1, 2] {
+            gives_every_target_l_units(&layout(4, 2, 20, 1, 1, 77).in_edition(edition));
+        }
+    }
+
+    fn gives_every_target_l_units(shape: &Layout) {
         let numbers = shape.derived();
         let mut seen = [0; 20];
         for group in 0..numbers.groups {
             let mut targets: Vec<u64> = (0..numbers.w)
-                .map(|unit| place(&shape, group, unit).1.target)
+                .map(|unit| place(shape, group, unit).1.target)
                 .collect();
             targets.iter().for_each(|t| seen[*t as usize] += 1);
             targets.sort_unstable();

@@ -409,7 +409,7 @@ mod tests {
             let (n, k) = (1 + draws.draw(8), draws.draw(4));
             let p = n + 2 * k + draws.draw(4);
             let shape = layout(n, k, p, 1 + draws.draw(5), 1 + draws.draw(3), draws.high());
-            let mut pool = Beside::new(shape);
+            let mut pool = Beside::new(shape.in_edition(1 + draws.draw(2)));
             for _ in 0..25 {
                 pool.event(&mut draws);
                 pool.check();

@@ -202,7 +202,8 @@ mod tests {
         for _ in 0..200 {
             let (n, k) = (1 + draws.draw(5), 1 + draws.draw(3));
             let p = n + 2 * k + draws.draw(6);
-            let shape = layout(n, k, p, 1, 1 + draws.draw(3), draws.high());
+            let shape =
+                layout(n, k, p, 1, 1 + draws.draw(3), draws.high()).in_edition(1 + draws.draw(2));
             let mut image = vec![0; shape.derived().image as usize];
             let mut record = empty(0);
             for _ in 0..8 {

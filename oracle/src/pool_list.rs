@@ -282,7 +282,7 @@ mod tests {
     #[test]
     fn a_list_is_its_writes_one_after_the_other() {
         let mut draws = Draws::new(8);
-        let shape = layout(2, 2, 7, 3, 2, 11);
+        let shape = layout(2, 2, 7, 3, 2, 11).in_edition(2);
         let numbers = shape.derived();
         let (mut record, mut image) = (Record::default(), vec![0; numbers.image as usize]);
         let mut accepted = 0;

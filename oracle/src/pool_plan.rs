@@ -271,7 +271,8 @@ mod tests {
     fn drawn_pool(draws: &mut Draws) -> (Layout, Record, Vec<u8>) {
         let (n, k) = (1 + draws.draw(6), 1 + draws.draw(3));
         let p = n + 2 * k + draws.draw(4);
-        let shape = layout(n, k, p, 1 + draws.draw(3), 1 + draws.draw(3), draws.high());
+        let shape = layout(n, k, p, 1 + draws.draw(3), 1 + draws.draw(3), draws.high())
+            .in_edition(1 + draws.draw(2));
         let mut image = vec![0; shape.derived().image as usize];
         let mut file = vec![0; shape.derived().capacity as usize];
         draws.fill(&mut file);

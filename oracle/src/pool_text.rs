@@ -127,7 +127,8 @@ mod tests {
     fn drawn(draws: &mut Draws) -> (Layout, Vec<u8>, Vec<u8>) {
         let (n, k) = (1 + draws.draw(4), draws.draw(4));
         let p = n + 2 * k + draws.draw(5);
-        let shape = layout(n, k, p, 1 + draws.draw(5), 1 + draws.draw(3), draws.high());
+        let shape = layout(n, k, p, 1 + draws.draw(5), 1 + draws.draw(3), draws.high())
+            .in_edition(1 + draws.draw(2));
         let mut image = vec![0; shape.derived().image as usize];
         draws.fill(&mut image);
         let mut text = vec![1; text_length(&shape) as usize];

@@ -7,7 +7,8 @@
 //! is. The program runs the events from a zero pool and prints each answer. A
 //! malformed line prints number 13 and the run goes on with the next line.
 //! Lines have at most 8,300 bytes before the newline; a longer one is malformed
-//! up to its newline."
+//! up to its newline." And order 8: "Document 01's examples and the replay stay
+//! edition 1."
 
 use crate::layout::{layout, range_refusal, Layout};
 use crate::pool::{fail, pool_refusal, read, repair, write, Record};
@@ -60,7 +61,7 @@ impl Event {
 }
 
 /// The first line that tells this layout. Every number must have room in its
-/// digits.
+/// digits; the edition, which has none, is not told.
 pub fn line_of_layout(y: &Layout) -> String {
     let Layout {
         n,
@@ -69,6 +70,7 @@ pub fn line_of_layout(y: &Layout) -> String {
         u,
         t,
         cookie,
+        edition: _,
     } = y;
     format!("{n:02x} {k:02x} {p:02x} {u:04x} {t:06x} {cookie:016x}\n")
 }
@@ -117,7 +119,8 @@ fn event_of(line: &[u8]) -> Option<Event> {
     is_form.then_some(event)
 }
 
-/// The layout that a first line tells, `None` where it is malformed.
+/// The layout that a first line tells, of edition 1, `None` where it is
+/// malformed.
 fn layout_of(line: &[u8]) -> Option<Layout> {
     let told: Option<Vec<u64>> = words_of(line)?.into_iter().map(number).collect();
     let [n, k, p, u, t, cookie] = told?[..] else {
@@ -133,7 +136,7 @@ fn layout_of(line: &[u8]) -> Option<Layout> {
 pub fn first_line(line: &[u8]) -> First {
     let refused = |refusal| First {
         refusal,
-        layout: layout(0, 0, 0, 0, 0, 0),
+        layout: Layout::default(),
         image: 0,
     };
     let Some(y) = layout_of(line) else {
@@ -405,7 +408,7 @@ mod tests {
 
     #[test]
     fn a_refused_first_line_tells_zeros() {
-        let zeros = layout(0, 0, 0, 0, 0, 0);
+        let zeros = Layout::default();
         for line in [
             &FIRST[..37],
             " \n",

@@ -1,26 +1,27 @@
 //! Document 01's checked examples, starred or not, and of document 02 the order
-//! that order 5 gives to files, the count of order 6 and the plans of order 7, as
-//! checks of this library.
+//! that order 5 gives to files, the count of order 6, the plans of order 7 and
+//! the editions of order 8, as checks of this library.
 
 use crate::catalogue::{listing, lookup, refusal, Listed, Record as Entry, Wide};
 use crate::draws::Draws;
 use crate::field::multiply;
-use crate::group::{coefficient, encode};
+use crate::group::{coefficient, encode, rebuild};
 use crate::hexline::hex_line;
 use crate::layout::{layout, range_refusal, Layout};
-use crate::permutation::{advance, permutation, start};
-use crate::place::{file_byte, image_byte, place, unit_targets};
-use crate::pool::{fail, homes, read, repair, write, Record};
+use crate::permutation::{advance, begin, inverse, permutation, start};
+use crate::place::{file_byte, image_byte, place, step, unit_at, unit_targets, Cursor, Step};
+use crate::pool::{fail, homes, prepare, read, repair, show, write, Record};
 use crate::pool_count::{audit, missing_units, most_missing, panel, Counts, WRONG_COUNT};
+use crate::pool_list::write_list;
 use crate::pool_plan::{check_plan, draw_plan, repair_by, BAD_PLAN};
 use crate::pool_text::{read_text, write_text};
-use crate::replay::{play_line, Event};
+use crate::replay::{first_line, play_line, replay, Event};
 
 /// One example: the words of the documents and whether this library agrees.
 pub type Check = (&'static str, fn() -> bool);
 
 /// All of them.
-pub const CHECKS: [Check; 32] = [
+pub const CHECKS: [Check; 36] = [
     ("N=4 K=2 P=20: W=8, B=40, L=2, C=5", wide_layout),
     ("N=1 K=0 P=1: L=1, C=1", least_layout),
     ("N=16 K=3: P=22 accepted, P=21 refused 1", tight_layout),
@@ -106,6 +107,22 @@ pub const CHECKS: [Check; 32] = [
     (
         "order 7: nothing missing, the empty plan alone is accepted",
         plans_of_nothing,
+    ),
+    (
+        "order 8: edition 2, cookie 0: tiles 0, 1 of P=3 give 0,2,1 and 1,2,0, of P=4 2,0,3,1 and 3,2,1,0",
+        second_edition,
+    ),
+    (
+        "order 8: four extra advances, then the exchanges go with the fifth state on",
+        fifth_state,
+    ),
+    (
+        "order 8: an edition of 0, 3 or 2^64 − 1 is 1 in every call",
+        other_editions,
+    ),
+    (
+        "order 8: the replay is edition 1, a line goes by the layout that it is lent",
+        replayed_edition,
     ),
 ];
 
@@ -361,7 +378,8 @@ fn counts_stay_true() -> bool {
     (0..40).all(|_| {
         let (n, k) = (1 + draws.draw(4), draws.draw(4));
         let p = n + 2 * k + draws.draw(4);
-        let shape = layout(n, k, p, 1 + draws.draw(3), 1 + draws.draw(3), draws.high());
+        let shape = layout(n, k, p, 1 + draws.draw(3), 1 + draws.draw(3), draws.high())
+            .in_edition(1 + draws.draw(2));
         let mut image = vec![0; shape.derived().image as usize];
         let mut record = Record::default();
         (0..20).all(|_| {
@@ -477,6 +495,126 @@ fn plans_of_nothing() -> bool {
     let is_none = |entry: &[u64; 3]| check_plan(&shape, &repaired, &image, entry) == BAD_PLAN;
     (empty(&Record::default()), empty(&repaired), empty(&record)) == (0, 0, BAD_PLAN)
         && all_entries().iter().all(is_none)
+}
+
+fn second_edition() -> bool {
+    let gives = |p, tile, wanted: &[u64]| {
+        let shape = layout(1, 1, p, 1, 2, 0).in_edition(2);
+        permutation(&shape, tile).1[..p as usize] == *wanted
+    };
+    gives(3, 0, &[0, 2, 1])
+        && gives(3, 1, &[1, 2, 0])
+        && gives(4, 0, &[2, 0, 3, 1])
+        && gives(4, 1, &[3, 2, 1, 0])
+}
+
+/// The state that the first exchange goes with.
+fn fifth_state() -> bool {
+    let first = |edition| advance(begin(edition, 0, 0));
+    (first(1), first(2)) == (1_442_695_040_888_963_407, 7_076_646_890_315_895_283)
+}
+
+/// What the calls without a record answer, with arguments that the row of the
+/// examples takes.
+fn answers_of_places(shape: &Layout) -> Vec<u64> {
+    let (mut image, mut text) = ([0; 48], [0; 228]);
+    let from = Cursor {
+        target: 0,
+        frame: 0,
+    };
+    let walked = match step(shape, from) {
+        Step::Refused(number, _) => number,
+        Step::At(..) | Step::Done(_) => 0,
+    };
+    vec![
+        shape.numbers().0,
+        permutation(shape, 0).0,
+        inverse(shape, 0).0,
+        place(shape, 0, 0).0,
+        unit_at(shape, 0, 0).0,
+        file_byte(shape, 0).0,
+        image_byte(shape, 0).0,
+        walked,
+        encode(shape, &mut [0; 8]),
+        rebuild(shape, &mut [0; 8], &[1]),
+        hex_line(shape, &image, 0, 0, &mut [0; 19]),
+        write_text(shape, &image, &mut text),
+        read_text(shape, &text, &mut image).0,
+    ]
+}
+
+/// And those with one, each from no failures on.
+fn answers_of_pools(shape: &Layout) -> Vec<u64> {
+    let (none, mut image, mut unit) = (Record::default(), [0; 48], [0; 4]);
+    vec![
+        read(shape, &none, &image, 0, &mut [9]),
+        write(shape, &none, &mut image, 0, &[9]),
+        write_list(shape, &none, &mut image, &[(0, 1)], &[9]).0,
+        fail(shape, &none, &image, 3).0,
+        repair(shape, &none, &mut image).0,
+        prepare(shape, &none, &image, 0, 0, &mut unit),
+        show(shape, &none, &image, &unit, 0, 0).0,
+        panel(shape, &none, &image).0,
+        audit(shape, &none, &image),
+        check_plan(shape, &none, &image, &[]),
+        repair_by(shape, &none, &mut image, &[]).0,
+        draw_plan(shape, &none, &image, &mut []).0,
+    ]
+}
+
+/// And a line of each event: the number that its answer begins with.
+fn answers_of_lines(shape: &Layout) -> Vec<u64> {
+    let lines: [&[u8]; 4] = [
+        b"01 0000000000000000 41\n",
+        b"02 03\n",
+        b"03\n",
+        b"04 0000000000000000 0000000000000001\n",
+    ];
+    let number = |line| {
+        let answer = played(shape, &[line]);
+        let word = answer.split_whitespace().next();
+        word.and_then(|word| word.parse().ok()).expect("a number")
+    };
+    lines.into_iter().map(number).collect()
+}
+
+fn other_editions() -> bool {
+    let all_are = |edition, wanted| {
+        let shape = example().in_edition(edition);
+        let answers = [
+            answers_of_places(&shape),
+            answers_of_pools(&shape),
+            answers_of_lines(&shape),
+        ];
+        answers.concat().iter().all(|answer| *answer == wanted)
+    };
+    all_are(1, 0) && all_are(2, 0) && [0, 3, u64::MAX].iter().all(|e| all_are(*e, 1))
+}
+
+/// What these lines answer one after the other, on an image of zeros.
+fn played(shape: &Layout, lines: &[&[u8]]) -> String {
+    let length = shape.in_edition(1).derived().image;
+    let (mut image, mut record) = (vec![0; length as usize], Record::default());
+    let room = 24 + 2 * image.len();
+    let mut answers = Vec::new();
+    for line in lines {
+        let played = play_line(shape, &record, &mut image, line, room);
+        record = played.record;
+        answers.extend(played.answer);
+    }
+    String::from_utf8(answers).expect("answers are ASCII")
+}
+
+/// Of a row of three targets, target 0 holds the spare in edition 1, where its
+/// repair finds nothing missing, and the data in edition 2.
+fn replayed_edition() -> bool {
+    let first: &[u8] = b"01 01 03 0001 000001 0000000000000000\n";
+    let events: [&[u8]; 2] = [b"02 00\n", b"03\n"];
+    let row = layout(1, 1, 3, 1, 1, 0);
+    first_line(first).layout == row
+        && replay(&[first, events[0], events[1]].concat()) == b"0\n0 0\n"
+        && played(&row, &events) == "0\n0 0\n"
+        && played(&row.in_edition(2), &events) == "0\n0 1\n"
 }
 
 #[cfg(test)]

@@ -88,7 +88,7 @@ fn scribble(seed: &mut u64, l: Units, unit: u64, buffer: &mut [u8])
 fn refused(i: u64, g: Group, buffer: &mut [u8], e: usize)
     requires { ⌜ Bounded g × (e ≤ 77824) ⌝ }
 {
-    let kind = i % 8;
+    let kind = i % 10;
     let y = drawn::refused_layout(g, kind);
     let len = drawn::refused_length(e, kind);
     text(b"refused");

@@ -28,6 +28,7 @@ fn row_of(u: u64) -> Layout {
         u: u,
         t: 1,
         cookie: 16,
+        edition: 1,
     }
 }
 

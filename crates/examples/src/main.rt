@@ -1,4 +1,5 @@
-// Document 01's checked examples of layouts, permutations, places, walks and offsets, in words.
+// Document 01's checked examples of layouts, permutations, places, walks and offsets, in words; then the permutations of
+// edition 2.
 use layout::Cursor;
 use layout::Step;
 use numbers::Layout;
@@ -7,7 +8,7 @@ use trial::decimal;
 use trial::newline;
 use trial::text;
 
-fn layout_of(n: u64, k: u64, p: u64, u: u64) -> Layout {
+fn layout_of(n: u64, k: u64, p: u64, u: u64, edition: u64) -> Layout {
     Layout {
         n,
         k,
@@ -15,6 +16,7 @@ fn layout_of(n: u64, k: u64, p: u64, u: u64) -> Layout {
         u,
         t: 1,
         cookie: 0,
+        edition,
     }
 }
 
@@ -48,15 +50,17 @@ fn show_state(label: &[u8], g: Generator) {
     newline();
 }
 
-fn show_states() {
-    text(b"Generator states of cookie 0, tile 0\n");
-    let start = Generator::start(0, 0);
-    show_state(b"start: ", start);
-    let first = start.advance();
-    show_state(b"state 1: ", first);
+// The state from which the exchanges begin, and those of three exchanges.
+fn show_states(edition: u64, begin: &[u8], one: &[u8], two: &[u8], three: &[u8]) {
+    labelled(b"Generator states of cookie 0, tile 0, edition ", edition);
+    newline();
+    let g = Generator::begin(edition, 0, 0);
+    show_state(begin, g);
+    let first = g.advance();
+    show_state(one, first);
     let second = first.advance();
-    show_state(b"state 2: ", second);
-    show_state(b"state 3: ", second.advance());
+    show_state(two, second);
+    show_state(three, second.advance());
 }
 
 fn show_entries(entries: [u8; 64], count: u64) {
@@ -78,6 +82,13 @@ fn show_permutation(y: Layout) {
     let inverse = back.entries;
     show_entries(inverse, y.p);
     newline();
+}
+
+fn show_permutations(edition: u64) {
+    labelled(b"Permutations of cookie 0, tile 0, edition ", edition);
+    newline();
+    show_permutation(layout_of(1, 1, 3, 1, edition));
+    show_permutation(layout_of(1, 1, 4, 4, edition));
 }
 
 fn show_place(y: Layout, group: u64, unit: u64) {
@@ -211,15 +222,13 @@ fn show_slip(y: Layout) {
 
 fn main() {
     text(b"Layout numbers\n");
-    show_numbers(layout_of(4, 2, 20, 1));
-    show_numbers(layout_of(1, 0, 1, 1));
-    show_numbers(layout_of(16, 3, 22, 1));
-    show_numbers(layout_of(16, 3, 21, 1));
-    show_states();
-    text(b"Permutations of cookie 0, tile 0\n");
-    show_permutation(layout_of(1, 1, 3, 1));
-    let y = layout_of(1, 1, 4, 4);
-    show_permutation(y);
+    show_numbers(layout_of(4, 2, 20, 1, 1));
+    show_numbers(layout_of(1, 0, 1, 1, 1));
+    show_numbers(layout_of(16, 3, 22, 1, 1));
+    show_numbers(layout_of(16, 3, 21, 1, 1));
+    show_states(1, b"start: ", b"state 1: ", b"state 2: ", b"state 3: ");
+    show_permutations(1);
+    let y = layout_of(1, 1, 4, 4, 1);
     show_places(y);
     show_walks(y);
     text(b"File offsets\n");
@@ -229,4 +238,6 @@ fn main() {
     show_offset(y, 16);
     show_bytes(y);
     show_slip(y);
+    show_states(2, b"state 4: ", b"state 5: ", b"state 6: ", b"state 7: ");
+    show_permutations(2);
 }

@@ -27,6 +27,7 @@ pub fn times(a: u64, b: u64) -> u64
     a * b
 }
 
+// One tile on as few targets as hold a group, in edition 1 where N is even.
 pub fn layout_of(g: Group) -> Layout
     requires { ⌜ Bounded g ⌝ }
 {
@@ -37,6 +38,7 @@ pub fn layout_of(g: Group) -> Layout
         u: g.u,
         t: 1,
         cookie: 0,
+        edition: 1 + g.n % 2,
     }
 }
 
@@ -116,21 +118,36 @@ pub fn units_by(seed: &mut u64, g: Group) -> Units
 
 // ---- refused calls, by their kind
 
+fn refused_bytes(u: u64, kind: u64) -> u64 {
+    if kind == 5 {
+        return 0;
+    }
+    u
+}
+
+fn refused_edition(edition: u64, kind: u64) -> u64 {
+    if kind == 8 {
+        return 0;
+    }
+    if kind == 9 {
+        return 3;
+    }
+    edition
+}
+
 pub fn refused_layout(g: Group, kind: u64) -> Layout
     requires { ⌜ Bounded g ⌝ }
 {
     let y = layout_of(g);
-    if kind == 5 {
-        return Layout {
-            n: y.n,
-            k: y.k,
-            p: y.p,
-            u: 0,
-            t: y.t,
-            cookie: y.cookie,
-        };
+    Layout {
+        n: y.n,
+        k: y.k,
+        p: y.p,
+        u: refused_bytes(y.u, kind),
+        t: y.t,
+        cookie: y.cookie,
+        edition: refused_edition(y.edition, kind),
     }
-    y
 }
 
 pub fn refused_length(e: usize, kind: u64) -> usize
@@ -152,6 +169,13 @@ pub fn refused_length(e: usize, kind: u64) -> usize
         return 0;
     }
     e
+}
+
+fn no_units() -> Units {
+    Units {
+        at: [0, 0, 0, 0],
+        count: 0,
+    }
 }
 
 pub fn refused_units(g: Group, kind: u64) -> Units
@@ -177,10 +201,10 @@ pub fn refused_units(g: Group, kind: u64) -> Units
         };
     }
     if kind == 4 {
-        return Units {
-            at: [0, 0, 0, 0],
-            count: 0,
-        };
+        return no_units();
+    }
+    if kind == 8 {
+        return no_units();
     }
     if kind == 5 {
         return Units {

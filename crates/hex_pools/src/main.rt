@@ -27,6 +27,7 @@ fn print_pool(y: Layout) {
     number(y.u);
     number(y.t);
     number(y.cookie);
+    number(y.edition);
     newline();
 }
 
@@ -78,6 +79,7 @@ fn first_pool() {
         u: 2,
         t: 1,
         cookie: 0,
+        edition: 1,
     };
     show_pool(y, b"\x00\x00ABAB", 1);
 }
@@ -89,6 +91,7 @@ fn drawn_layout(seed: &mut u64) -> Layout {
     let u = 1 + draw(seed, 12);
     let t = 1 + draw(seed, 2);
     let cookie = trial::high(seed);
+    let edition = 1 + draw(seed, 2);
     Layout {
         n: n,
         k: k,
@@ -96,6 +99,7 @@ fn drawn_layout(seed: &mut u64) -> Layout {
         u: u,
         t: t,
         cookie: cookie,
+        edition: edition,
     }
 }
 
@@ -137,6 +141,7 @@ fn long_pool(seed: &mut u64, image: &mut [u8]) {
         u: 1,
         t: 65536,
         cookie: 0,
+        edition: 1,
     };
     let mut line = [0u8; 13];
     trial::fill(seed, image);
@@ -172,6 +177,7 @@ fn summed_pool(seed: &mut u64, p: u64, u: u64, image: &mut [u8]) {
         u: u,
         t: 1,
         cookie: 0,
+        edition: 1,
     };
     let mut space = [0u8; 8203];
     let len = line_length(u);
@@ -206,7 +212,7 @@ fn tried_line(y: Layout, size: usize, target: u64, frame: u64, len: usize)
     newline();
 }
 
-fn three(u: u64) -> Layout {
+fn three(u: u64, edition: u64) -> Layout {
     Layout {
         n: 1,
         k: 1,
@@ -214,6 +220,7 @@ fn three(u: u64) -> Layout {
         u: u,
         t: 1,
         cookie: 0,
+        edition: edition,
     }
 }
 
@@ -226,23 +233,26 @@ fn tried_lines() {
         u: ONES,
         t: ONES,
         cookie: ONES,
+        edition: ONES,
     };
-    tried_line(three(2), 6, 2, 0, 15);
-    tried_line(three(0), 6, 2, 0, 15);
+    tried_line(three(2, 1), 6, 2, 0, 15);
+    tried_line(three(0, 1), 6, 2, 0, 15);
     tried_line(ones, 6, 2, 0, 15);
-    tried_line(three(2), 5, 2, 0, 15);
-    tried_line(three(2), 7, 2, 0, 15);
-    tried_line(three(2), 0, 2, 0, 15);
-    tried_line(three(2), 6, 3, 0, 15);
-    tried_line(three(2), 6, ONES, 0, 15);
-    tried_line(three(2), 6, 2, 1, 15);
-    tried_line(three(2), 6, 2, ONES, 15);
-    tried_line(three(2), 6, 2, 0, 14);
-    tried_line(three(2), 6, 2, 0, 16);
-    tried_line(three(2), 6, 2, 0, 0);
-    tried_line(three(0), 5, 3, 1, 14);
-    tried_line(three(2), 5, 3, 1, 14);
-    tried_line(three(2), 6, 3, 1, 14);
+    tried_line(three(2, 0), 6, 2, 0, 15);
+    tried_line(three(2, 3), 6, 2, 0, 15);
+    tried_line(three(2, 1), 5, 2, 0, 15);
+    tried_line(three(2, 1), 7, 2, 0, 15);
+    tried_line(three(2, 1), 0, 2, 0, 15);
+    tried_line(three(2, 1), 6, 3, 0, 15);
+    tried_line(three(2, 1), 6, ONES, 0, 15);
+    tried_line(three(2, 1), 6, 2, 1, 15);
+    tried_line(three(2, 1), 6, 2, ONES, 15);
+    tried_line(three(2, 1), 6, 2, 0, 14);
+    tried_line(three(2, 1), 6, 2, 0, 16);
+    tried_line(three(2, 1), 6, 2, 0, 0);
+    tried_line(three(0, 1), 5, 3, 1, 14);
+    tried_line(three(2, 1), 5, 3, 1, 14);
+    tried_line(three(2, 1), 6, 3, 1, 14);
 }
 
 // The two pools that are shown by checksums, in the first bytes of a space and in the whole of it.

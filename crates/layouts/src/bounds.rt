@@ -7,15 +7,7 @@ const HALF: u64 = 9223372036854775808;
 
 const HALF_LESS: u64 = 9223372036854775807;
 
-fn bound(n: u64, k: u64, p: u64, u: u64, t: u64, cookie: u64) {
-    let y = Layout {
-        n,
-        k,
-        p,
-        u,
-        t,
-        cookie,
-    };
+fn lines(y: Layout) {
     crate::show::head(b"bound", y);
     crate::show::numbers(y);
     crate::show::tile(y, 0);
@@ -25,6 +17,44 @@ fn bound(n: u64, k: u64, p: u64, u: u64, t: u64, cookie: u64) {
     crate::show::byte(y, 0);
     crate::show::step(y, 0, 0);
     crate::show::step(y, 3, ONES);
+}
+
+fn bound(n: u64, k: u64, p: u64, u: u64, t: u64, cookie: u64) {
+    lines(Layout {
+        n,
+        k,
+        p,
+        u,
+        t,
+        cookie,
+        edition: 1,
+    });
+}
+
+// An edition beside numbers that are inside.
+fn edition(x: u64) {
+    lines(Layout {
+        n: 4,
+        k: 2,
+        p: 20,
+        u: 16,
+        t: 3,
+        cookie: 7,
+        edition: x,
+    });
+}
+
+// The same number in every place.
+fn all(x: u64) {
+    lines(Layout {
+        n: x,
+        k: x,
+        p: x,
+        u: x,
+        t: x,
+        cookie: x,
+        edition: x,
+    });
 }
 
 fn data() {
@@ -75,10 +105,12 @@ fn tiles() {
     bound(4, 2, 20, 16, ONES, 7);
 }
 
-fn ends() {
-    bound(4, 2, 20, 16, 3, ONES);
-    bound(0, 0, 0, 0, 0, 0);
-    bound(ONES, ONES, ONES, ONES, ONES, ONES);
+fn editions() {
+    edition(0);
+    edition(1);
+    edition(2);
+    edition(3);
+    edition(ONES);
 }
 
 pub fn show_all() {
@@ -87,5 +119,8 @@ pub fn show_all() {
     targets();
     bytes();
     tiles();
-    ends();
+    bound(4, 2, 20, 16, 3, ONES);
+    editions();
+    all(0);
+    all(ONES);
 }

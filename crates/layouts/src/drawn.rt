@@ -40,6 +40,7 @@ pub fn layout(seed: &mut u64) -> Layout {
     let u = 1 + draw(seed, 4096);
     let t = tiles(seed);
     let c = cookie(seed);
+    let edition = 1 + draw(seed, 2);
     Layout {
         n,
         k,
@@ -47,5 +48,6 @@ pub fn layout(seed: &mut u64) -> Layout {
         u,
         t,
         cookie: c,
+        edition,
     }
 }

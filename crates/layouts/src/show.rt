@@ -48,6 +48,7 @@ pub fn head(label: &[u8], y: Layout) {
     number(y.u);
     number(y.t);
     number(y.cookie);
+    number(y.edition);
     newline();
 }
 

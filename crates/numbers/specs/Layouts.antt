@@ -8,6 +8,7 @@ abbrev pub width : Layout → ℕ
 width y = y .n + 2 * y .k
 
 -- ".. P targets with W ≤ P ≤ 64, U unit bytes 1..4,096, T tiles 1..65,536, cookie any 64-bit number"
+-- Document 02, order 8: "The layout carries an edition, 1 or 2; another is refused with 1."
 pub record Valid (y : Layout) : Type 0 where
   pub some-data : 1 ≤ y .n
   pub few-data : y .n ≤ 16
@@ -18,6 +19,8 @@ pub record Valid (y : Layout) : Type 0 where
   pub few-bytes : y .u ≤ 4096
   pub some-tiles : 1 ≤ y .t
   pub few-tiles : y .t ≤ 65536
+  pub some-edition : 1 ≤ y .edition
+  pub few-editions : y .edition ≤ 2
 
 -- "B is the least common multiple of W and P (the greatest common divisor by Euclid's rule)"
 unfoldable pub block : Layout → ℕ

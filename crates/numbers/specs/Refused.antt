@@ -24,7 +24,7 @@ AllLe (x ∷ xs) = (x .0 ≤ x .1) × AllLe xs
 -- the bounds of `Valid`, low before high
 abbrev bounds : Layout → List (ℕ × ℕ)
 bounds y =
-    (1, y .n) ∷ (y .n, 16) ∷ (y .k, 3) ∷ (width y, y .p) ∷ (y .p, 64) ∷ (1, y .u) ∷ (y .u, 4096) ∷ (1, y .t) ∷ (y .t, 65536) ∷ []
+    (1, y .n) ∷ (y .n, 16) ∷ (y .k, 3) ∷ (width y, y .p) ∷ (y .p, 64) ∷ (1, y .u) ∷ (y .u, 4096) ∷ (1, y .t) ∷ (y .t, 65536) ∷ (1, y .edition) ∷ (y .edition, 2) ∷ []
 
 -- whether a layout is within its bounds
 unfoldable pub validb : Layout → Bool

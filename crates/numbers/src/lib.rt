@@ -7,7 +7,8 @@ ghost use Rattle.numbers.specs.Refused.{layoutRefusal};
 ghost use Rattle.numbers.specs.Answers.{Shaped, Numbered};
 
 // Document 01's six numbers: N data units and K parity units a group (with K spares), P targets,
-// U bytes a unit, T tiles, and the cookie that the permutations start from.
+// U bytes a unit, T tiles, and the cookie that the permutations start from. And document 02's
+// edition of the permutations, 1 or 2: document 01's are edition 1.
 #[repr(C)]
 pub struct Layout {
     pub n: u64,
@@ -16,6 +17,7 @@ pub struct Layout {
     pub u: u64,
     pub t: u64,
     pub cookie: u64,
+    pub edition: u64,
 }
 
 // W, B, L and C.
@@ -76,6 +78,12 @@ pub fn refusal(y: Layout) -> u64
         return 1;
     }
     if 65536 < y.t {
+        return 1;
+    }
+    if y.edition < 1 {
+        return 1;
+    }
+    if 2 < y.edition {
         return 1;
     }
     0

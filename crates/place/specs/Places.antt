@@ -15,7 +15,7 @@ widthsOf y = record { w = width y; p = y .p; l = rows y; c = groups y }
 
 -- the permutation of a tile of the layout: all that stands on permutations knows them by this name
 unfoldable pub tilePermutation : Layout → ℕ → List ℕ
-tilePermutation y tile = permutationOf (y .p) (y .cookie) tile
+tilePermutation y tile = permutationOf (y .edition) (y .p) (y .cookie) tile
 
 -- the target of each column of a tile, and the column of each target
 abbrev pub targetsOf : Layout → ℕ → ℕ → ℕ

@@ -19,17 +19,17 @@ module _ (y : Layout) (v : Valid y) (tile : ℕ) where
 
   pub tile-length : length (tilePermutation y tile) ≡ 64
   unfolding tilePermutation
-  tile-length = permutation-length (y .p) (y .cookie) tile some (v .few-targets)
+  tile-length = permutation-length (y .edition) (y .p) (y .cookie) tile some (v .few-targets)
 
   pub tile-permutes : Permutes 64 (tilePermutation y tile)
   unfolding tilePermutation
-  tile-permutes = permutation-bijection (y .p) (y .cookie) tile some (v .few-targets) 64 (v .few-targets) (le-refl 64)
+  tile-permutes = permutation-bijection (y .edition) (y .p) (y .cookie) tile some (v .few-targets) 64 (v .few-targets) (le-refl 64)
 
   pub tile-undone : (n : ℕ) → y .p ≤ n → n ≤ 64 → Bijection n (at (tilePermutation y tile)) (at (inverseOf (tilePermutation y tile)))
   unfolding tilePermutation
-  tile-undone = permutation-inverse (y .p) (y .cookie) tile some (v .few-targets)
+  tile-undone = permutation-inverse (y .edition) (y .p) (y .cookie) tile some (v .few-targets)
 
   -- "those from P on hold their own index"
   pub tile-above : (t : ℕ) → y .p ≤ t → t < 64 → at (tilePermutation y tile) t ≡ t
   unfolding tilePermutation
-  tile-above = permutation-own (y .p) (y .cookie) tile some (v .few-targets)
+  tile-above = permutation-own (y .edition) (y .p) (y .cookie) tile some (v .few-targets)

@@ -109,7 +109,7 @@ pub fn permutation(y: Layout, tile: u64) -> [u8; 64]
     requires { ⌜ Valid y ⌝ }
     ensures { λ r. ⌜ r ≡ tilePermutation y tile ⌝ }
 {
-    tile::permutation(y.p, y.cookie, tile)
+    tile::permutation(y.edition, y.p, y.cookie, tile)
 }
 
 // The column of each target of a tile.
@@ -117,7 +117,7 @@ pub fn inverse(y: Layout, tile: u64) -> [u8; 64]
     requires { ⌜ Valid y ⌝ }
     ensures { λ r. ⌜ r ≡ inverseOf (tilePermutation y tile) ⌝ }
 {
-    tile::inverse(y.p, y.cookie, tile)
+    tile::inverse(y.edition, y.p, y.cookie, tile)
 }
 
 // The place of unit u of group g, working out the permutation too.

@@ -23,6 +23,16 @@ fn record_of(a: u64, b: u64, c: u64, k: u64, q: u64) -> Record {
     }
 }
 
+fn edition_for(y: Layout, kind: u64) -> u64 {
+    if kind == 13 {
+        return 0;
+    }
+    if kind == 14 {
+        return 3;
+    }
+    y.edition
+}
+
 // The layout of a bad call.
 fn layout_for(y: Layout, kind: u64) -> Layout {
     let mut u = y.u;
@@ -43,6 +53,7 @@ fn layout_for(y: Layout, kind: u64) -> Layout {
         u,
         t: y.t,
         cookie: y.cookie,
+        edition: edition_for(y, kind),
     }
 }
 
@@ -74,6 +85,9 @@ fn record_for(run: Run, kind: u64) -> Record {
     }
     if kind == 12 {
         return calls::counted(rec, ONES);
+    }
+    if 12 < kind {
+        return rec;
     }
     calls::counted(record_of(ONES, ONES, ONES, ONES, ONES), ONES)
 }

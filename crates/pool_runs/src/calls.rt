@@ -90,6 +90,7 @@ pub fn head(i: u64, y: Layout) {
     number(y.u);
     number(y.t);
     number(y.cookie);
+    number(y.edition);
     newline();
 }
 

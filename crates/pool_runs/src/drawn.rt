@@ -79,6 +79,7 @@ pub fn layout(seed: &mut u64) -> Layout {
     let u = unit_bytes(most, seed);
     let t = plus(1, below(seed, least(quotient(most, u), 32)));
     let cookie = trial::high(seed);
+    let edition = 1 + draw(seed, 2);
     Layout {
         n,
         k,
@@ -86,6 +87,7 @@ pub fn layout(seed: &mut u64) -> Layout {
         u,
         t,
         cookie,
+        edition,
     }
 }
 

@@ -96,6 +96,7 @@ fn four_targets() -> Run {
         u: 4,
         t: 1,
         cookie: 0,
+        edition: 1,
     })
 }
 
@@ -134,6 +135,7 @@ fn two_failures(i: u64, v: u64, w: u64, space: &mut [u8], buffer: &mut [u8]) {
         u: 3,
         t: 1,
         cookie: 0,
+        edition: 1,
     };
     let run = calls::begin(y);
     let image = calls::front(space, run.numbers.image);

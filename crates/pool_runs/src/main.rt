@@ -76,7 +76,7 @@ fn event(run: Run, image: &mut [u8], buffer: &mut [u8], seed: &mut u64) -> Run {
         return run;
     }
     if kind == 15 {
-        bad::event(run, image, buffer, draw(seed, 13));
+        bad::event(run, image, buffer, draw(seed, 15));
         return run;
     }
     if kind == 16 {

@@ -12,7 +12,7 @@ use Rattle.numbers.specs.declared.Layout.{Layout}
 use Rattle.numbers.specs.Gcd.{gcd, gcdIn, lcm}
 use Rattle.numbers.specs.Layouts.{width, block, rows, groups}
 use Rattle.numbers.specs.Refused.{validb, layoutRefusal}
-use Rattle.tile.specs.Generator.{startOf, nextOf, drawOf}
+use Rattle.tile.specs.Generator.{startOf, nextOf, advanced, extra, beginOf, drawOf}
 use Rattle.tile.specs.Permutation.{own, exchange, shuffleOf, permutationOf, indexOf, inverseOf}
 use Rattle.place.specs.declared.Place.{Place}
 use Rattle.place.specs.Units.{frameOf, targetOf, groupAt, unitAt}
@@ -33,8 +33,9 @@ use Rattle.pool.specs.Counting.{onTarget}
 use Rattle.pool.specs.Refusals.{otherwise, failRefusal}
 use Rattle.pool.specs.Failing.{failRecord}
 
+-- document 02, order 8: "Document 01's examples .. stay edition 1"
 abbrev pub layout : ℕ → ℕ → ℕ → ℕ → ℕ → ℕ → Layout
-layout n k p u t cookie = record { n = n; k = k; p = p; u = u; t = t; cookie = cookie }
+layout n k p u t cookie = record { n = n; k = k; p = p; u = u; t = t; cookie = cookie; edition = 1 }
 
 -- "N=1 K=1 P=4 U=4 T=1 cookie 0"
 abbrev pub small : Layout
@@ -72,8 +73,8 @@ pub examples :
     × (rows (layout 1 0 1 1 1 0) ∷ groups (layout 1 0 1 1 1 0) ∷ [] ≡ 1 ∷ 1 ∷ [])
     × (layoutRefusal (layout 16 3 22 1 1 0) ≡ 0)
     × (layoutRefusal (layout 16 3 21 1 1 0) ≡ 1)
-    × (take 3 (permutationOf 3 0 0) ≡ 1 ∷ 2 ∷ 0 ∷ [])
-    × (take 4 (permutationOf 4 0 0) ≡ 2 ∷ 1 ∷ 3 ∷ 0 ∷ [])
+    × (take 3 (permutationOf 1 3 0 0) ≡ 1 ∷ 2 ∷ 0 ∷ [])
+    × (take 4 (permutationOf 1 4 0 0) ≡ 2 ∷ 1 ∷ 3 ∷ 0 ∷ [])
     × (three small 0 ≡ at 0 2 ∷ at 0 1 ∷ at 0 3 ∷ [])
     × (three small 1 ≡ at 0 0 ∷ at 1 2 ∷ at 1 1 ∷ [])
     × (three small 2 ≡ at 1 3 ∷ at 1 0 ∷ at 2 2 ∷ [])
@@ -86,5 +87,5 @@ pub examples :
     × (lost 0 ∷ lost 1 ∷ lost 2 ∷ lost 3 ∷ [] ≡ (false ∷ false ∷ []) ∷ (false ∷ false ∷ []) ∷ (true ∷ false ∷ []) ∷ (false ∷ true ∷ []) ∷ [])
     × (newHome 2 0 ∷ newHome 3 1 ∷ [] ≡ at 2 2 ∷ at 2 0 ∷ [])
     × (dataOn 0 3 ∷ dataOn 3 0 ∷ dataOn 4 0 ∷ [] ≡ 4 ∷ 4 ∷ 3 ∷ [])
-unfolding count sum tabulate _orElse_ refusalBy gcd gcdIn lcm block rows groups validb layoutRefusal startOf nextOf drawOf own exchange shuffleOf permutationOf tilePermutation indexOf inverseOf frameOf targetOf groupAt unitAt placeOf unitOf groupOf unitIn byteIn spotOf imageByte any all lowest listed free move homes recordGood home missing onTarget otherwise failRefusal failRecord _⊕_ mul mulDigits double scale inv powerDigits div coef sumTo parityOf content contentByte encodedOf encodeRefusal encoded
+unfolding count sum tabulate _orElse_ refusalBy gcd gcdIn lcm block rows groups validb layoutRefusal startOf nextOf advanced extra beginOf drawOf own exchange shuffleOf permutationOf tilePermutation indexOf inverseOf frameOf targetOf groupAt unitAt placeOf unitOf groupOf unitIn byteIn spotOf imageByte any all lowest listed free move homes recordGood home missing onTarget otherwise failRefusal failRecord _⊕_ mul mulDigits double scale inv powerDigits div coef sumTo parityOf content contentByte encodedOf encodeRefusal encoded
 examples = (refl, refl, refl, refl, refl, refl, refl, refl, refl, refl, refl, refl, refl, refl, refl, refl, refl, refl)

@@ -6,6 +6,7 @@ pub mod Runs
 pub mod RunLaws
 pub mod Demand3
 pub mod Calls
+pub mod Editions
 pub mod Homes
 pub mod Independence
 pub mod Refusals

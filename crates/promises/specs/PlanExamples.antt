@@ -10,7 +10,7 @@ use Rattle.lists.specs.Those.{those}
 use Rattle.numbers.specs.declared.Layout.{Layout}
 use Rattle.numbers.specs.Gcd.{gcd, gcdIn, lcm}
 use Rattle.numbers.specs.Layouts.{block, rows, groups}
-use Rattle.tile.specs.Generator.{startOf, nextOf, drawOf}
+use Rattle.tile.specs.Generator.{startOf, nextOf, advanced, extra, beginOf, drawOf}
 use Rattle.tile.specs.Permutation.{own, exchange, shuffleOf, permutationOf}
 use Rattle.place.specs.Units.{frameOf, targetOf}
 use Rattle.place.specs.Places.{tilePermutation, placeOf}
@@ -25,7 +25,7 @@ use Rattle.proposal.specs.Drawing.{groupDrawn, contentDrawn, entryNumber, drawn
 
 -- "N=1 K=1 P=4 U=4 T=1 cookie 0 .. Failing target 3 makes two contents missing"
 abbrev small : Layout
-small = record { n = 1; k = 1; p = 4; u = 4; t = 1; cookie = 0 }
+small = record { n = 1; k = 1; p = 4; u = 4; t = 1; cookie = 0; edition = 1 }
 
 abbrev failed3 : Record
 failed3 = record { failed = 3 ∷ 0 ∷ 0 ∷ []; k = 1; q = 0; waiting = 2 }
@@ -39,7 +39,7 @@ good = planGood small failed3
 
 -- N=2 K=1 P=4, one group, its contents on targets 2, 1, 3, and the first of them failed
 abbrev wider : Layout
-wider = record { n = 2; k = 1; p = 4; u = 1; t = 1; cookie = 0 }
+wider = record { n = 2; k = 1; p = 4; u = 1; t = 1; cookie = 0; edition = 1 }
 
 abbrev failed2 : Record
 failed2 = record { failed = 2 ∷ 0 ∷ 0 ∷ []; k = 1; q = 0; waiting = 1 }
@@ -68,5 +68,5 @@ pub plan-examples :
     × (planGood wider failed2 (0 ∷ 0 ∷ 1 ∷ 2 ∷ []) ≡ true)
     × (planGood wider failed2 (0 ∷ 0 ∷ 2 ∷ 1 ∷ []) ≡ true)
     × (planGood wider failed2 (0 ∷ 0 ∷ 1 ∷ 1 ∷ []) ≡ false)
-unfolding tabulate count sum those any all lowest gcd gcdIn lcm block rows groups startOf nextOf drawOf own exchange shuffleOf permutationOf tilePermutation frameOf targetOf placeOf listed free move homes home missing entries numberOf names namedOnce eachOnce sourceGood sourcesGood namesMissing planGood missingPair missingUnits groupDrawn contentDrawn entryNumber drawnPlan
+unfolding tabulate count sum those any all lowest gcd gcdIn lcm block rows groups startOf nextOf advanced extra beginOf drawOf own exchange shuffleOf permutationOf tilePermutation frameOf targetOf placeOf listed free move homes home missing entries numberOf names namedOnce eachOnce sourceGood sourcesGood namesMissing planGood missingPair missingUnits groupDrawn contentDrawn entryNumber drawnPlan
 plan-examples = (refl, refl, refl, refl, refl, refl, refl, refl, refl, refl, refl, refl, refl, refl, refl, refl, refl)

@@ -33,7 +33,7 @@ use Rattle.lists.specs.Refusal.{_orElse_, refusalBy}
 use Rattle.numbers.specs.Gcd.{gcd, gcdIn, lcm}
 use Rattle.numbers.specs.Layouts.{block, rows, groups}
 use Rattle.numbers.specs.Refused.{validb}
-use Rattle.tile.specs.Generator.{startOf, nextOf, drawOf}
+use Rattle.tile.specs.Generator.{startOf, nextOf, advanced, extra, beginOf, drawOf}
 use Rattle.tile.specs.Permutation.{own, exchange, shuffleOf, permutationOf, indexOf, inverseOf}
 use Rattle.place.specs.Units.{frameOf, targetOf, groupAt, unitAt}
 use Rattle.place.specs.Places.{tilePermutation, placeOf, unitOf}
@@ -85,5 +85,5 @@ output =
     10 ∷ 48 ∷ 32 ∷ 52 ∷ 50 ∷ 10 ∷ []
 
 pub whole-trace : replayOutput (linesOf trace) ≡ output
-unfolding tabulate any all lowest within count sum those _orElse_ refusalBy gcd gcdIn lcm block rows groups validb startOf nextOf drawOf own exchange shuffleOf permutationOf tilePermutation indexOf inverseOf frameOf targetOf groupAt unitAt placeOf unitOf groupOf unitIn byteIn offsetOf spotOf targetHere frameHere offsetHere unitHere _⊕_ mul mulDigits double scale inv powerDigits div sumTo coef cof det row num inverse sol systemEntry parityOf content left known dataOf rebuilt listed free move homes recordGood home missing hexDigit stored contentByte fileByte rangeRefusal onTarget otherwise failRefusal missingUnits repairRefusal readOut owner cellAfter storing touched writes laid writeImage failRecord repairImage repairRecord repairCount start isDigit digitValue hexOf numberAt fieldsAt isLayout layoutAt formOf kindOf bytesOf toldAs toldOf tenths places decimal printed linesOf firstRefusal playedRecord playedImage answerOf replayPrints replayOutput
+unfolding tabulate any all lowest within count sum those _orElse_ refusalBy gcd gcdIn lcm block rows groups validb startOf nextOf advanced extra beginOf drawOf own exchange shuffleOf permutationOf tilePermutation indexOf inverseOf frameOf targetOf groupAt unitAt placeOf unitOf groupOf unitIn byteIn offsetOf spotOf targetHere frameHere offsetHere unitHere _⊕_ mul mulDigits double scale inv powerDigits div sumTo coef cof det row num inverse sol systemEntry parityOf content left known dataOf rebuilt listed free move homes recordGood home missing hexDigit stored contentByte fileByte rangeRefusal onTarget otherwise failRefusal missingUnits repairRefusal readOut owner cellAfter storing touched writes laid writeImage failRecord repairImage repairRecord repairCount start isDigit digitValue hexOf numberAt fieldsAt isLayout layoutAt formOf kindOf bytesOf toldAs toldOf tenths places decimal printed linesOf firstRefusal playedRecord playedImage answerOf replayPrints replayOutput
 whole-trace = refl

@@ -19,7 +19,7 @@ use Rattle.pool_text.specs.Text.{poolChar, poolText}
 use Rattle.pool_text.specs.Reading.{textRight, firstWrong, textByte, textImage}
 
 abbrev row : Layout
-row = record { n = 1; k = 1; p = 3; u = 2; t = 1; cookie = 0 }
+row = record { n = 1; k = 1; p = 3; u = 2; t = 1; cookie = 0; edition = 1 }
 
 abbrev pool : List ℕ
 pool = 0 ∷ 0 ∷ 65 ∷ 66 ∷ 65 ∷ 66 ∷ []

@@ -30,6 +30,7 @@ fn fresh() -> Replay
         u: 0,
         t: 0,
         cookie: 0,
+        edition: 0,
     };
     let rec = Record {
         failed: [0, 0, 0],

@@ -21,7 +21,7 @@ unfoldable pub firstRefusal : List ℕ → ℕ
 firstRefusal line = refusalBy (firstTests line)
 
 abbrev pub noLayout : Layout
-noLayout = record { n = 0; k = 0; p = 0; u = 0; t = 0; cookie = 0 }
+noLayout = record { n = 0; k = 0; p = 0; u = 0; t = 0; cookie = 0; edition = 0 }
 
 unfoldable pub firstOf : List ℕ → FirstLine
 firstOf line =

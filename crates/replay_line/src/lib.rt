@@ -39,6 +39,7 @@ fn no_layout() -> Layout
         u: 0,
         t: 0,
         cookie: 0,
+        edition: 0,
     }
 }
 

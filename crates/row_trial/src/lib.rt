@@ -16,6 +16,7 @@ pub fn row_of(u: u64, t: u64) -> Layout {
         u: u,
         t: t,
         cookie: 7,
+        edition: 1,
     }
 }
 

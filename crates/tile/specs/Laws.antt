@@ -14,7 +14,7 @@ use borrow.Author.Tests.{eqb-true, eq-eqb}
 use Rattle.lists.specs.Pick.{pick, equal-or-not}
 use Rattle.lists.specs.Tabulate.{at, length-tabulate, getD-tabulate}
 use Rattle.lists.specs.Bijection.{Bijection, injective, flip, flip-left, flip-right, flip-other, flipped, same, undone}
-use Rattle.tile.specs.Generator.{startOf, nextOf, drawOf}
+use Rattle.tile.specs.Generator.{nextOf, advanced, beginOf, drawOf}
 use Rattle.tile.specs.Permutation.{own, exchange, shuffleOf, permutationOf, indexOf, inverseOf}
 
 -- the list is a bijection of 0 .. n - 1
@@ -32,6 +32,12 @@ draw-le s i h =
 pub next-lt : (s : ℕ) → nextOf s < 2 ^ 64
 unfolding nextOf
 next-lt s = omega arith
+
+-- one extra advance, with the code's n - 1
+pub advanced-step : (n s : ℕ) → 0 < n → advanced n s ≡ advanced (n - 1) (nextOf s)
+unfolding advanced
+advanced-step zero s h = absurd (not-suc-le-zero h)
+advanced-step (suc n) s h = ap (λ (k : ℕ). advanced k (nextOf s)) (sym (sub-one (suc n)))
 
 -- ---- lists
 
@@ -105,19 +111,19 @@ own-bijection n h = record { into = λ t p. subst (λ (x : ℕ). x < n) (sym (is
 
 -- ---- the permutation
 
-module _ (p cookie tile : ℕ) (some : 1 ≤ p) (few : p ≤ 64) where
-  pub permutation-length : length (permutationOf p cookie tile) ≡ 64
+module _ (edition p cookie tile : ℕ) (some : 1 ≤ p) (few : p ≤ 64) where
+  pub permutation-length : length (permutationOf edition p cookie tile) ≡ 64
   unfolding permutationOf
-  permutation-length = length-shuffle (p - 1) (startOf cookie tile) own ∙ length-own
+  permutation-length = length-shuffle (p - 1) (beginOf edition cookie tile) own ∙ length-own
 
   -- of 0 .. n - 1, for n from p to 64
-  pub permutation-bijection : (n : ℕ) → p ≤ n → n ≤ 64 → (g : ℕ → ℕ) × Bijection n (at (permutationOf p cookie tile)) g
+  pub permutation-bijection : (n : ℕ) → p ≤ n → n ≤ 64 → (g : ℕ → ℕ) × Bijection n (at (permutationOf edition p cookie tile)) g
   unfolding permutationOf
-  permutation-bijection n h k = shuffle-bijection (p - 1) (startOf cookie tile) n own (λ t. t) (omega arith) (subst (λ (m : ℕ). n ≤ m) (sym (length-own)) k) (own-bijection n k)
+  permutation-bijection n h k = shuffle-bijection (p - 1) (beginOf edition cookie tile) n own (λ t. t) (omega arith) (subst (λ (m : ℕ). n ≤ m) (sym (length-own)) k) (own-bijection n k)
 
-  pub permutation-own : (t : ℕ) → p ≤ t → t < 64 → at (permutationOf p cookie tile) t ≡ t
+  pub permutation-own : (t : ℕ) → p ≤ t → t < 64 → at (permutationOf edition p cookie tile) t ≡ t
   unfolding permutationOf
-  permutation-own t h k = shuffle-above (p - 1) (startOf cookie tile) own t (subst (λ (m : ℕ). p - 1 < m) (sym (length-own)) (omega arith)) (omega arith) ∙ at-own t k
+  permutation-own t h k = shuffle-above (p - 1) (beginOf edition cookie tile) own t (subst (λ (m : ℕ). p - 1 < m) (sym (length-own)) (omega arith)) (omega arith) ∙ at-own t k
 
 -- ---- the inverse
 
@@ -145,7 +151,8 @@ pub inverse-undoes : {n : ℕ} (l : List ℕ) (g : ℕ → ℕ) → n ≤ length
 inverse-undoes {n} l g hl h b = undone (λ v p. at-inverse l v (omega arith) ∙ index-undoes l g hl b v p) b
 
 -- the permutation and its inverse undo each other, on 0 .. n - 1 for n from p to 64
-pub permutation-inverse : (p cookie tile : ℕ) → 1 ≤ p → p ≤ 64 → (n : ℕ) → p ≤ n → n ≤ 64 → Bijection n (at (permutationOf p cookie tile)) (at (inverseOf (permutationOf p cookie tile)))
-permutation-inverse p cookie tile some few n h k =
-    let b = permutation-bijection p cookie tile some few n h k in
-    inverse-undoes (permutationOf p cookie tile) (b .0) (subst (λ (m : ℕ). n ≤ m) (sym (permutation-length p cookie tile some few)) k) k (b .1)
+pub permutation-inverse : (edition p cookie tile : ℕ) → 1 ≤ p → p ≤ 64 → (n : ℕ) → p ≤ n → n ≤ 64
+    → Bijection n (at (permutationOf edition p cookie tile)) (at (inverseOf (permutationOf edition p cookie tile)))
+permutation-inverse edition p cookie tile some few n h k =
+    let b = permutation-bijection edition p cookie tile some few n h k in
+    inverse-undoes (permutationOf edition p cookie tile) (b .0) (subst (λ (m : ℕ). n ≤ m) (sym (permutation-length edition p cookie tile some few)) k) k (b .1)

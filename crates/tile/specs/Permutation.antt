@@ -5,7 +5,7 @@ use lib.Dec.{eqb}
 use lib.ListN.{set}
 use Rattle.lists.specs.Pick.{pick}
 use Rattle.lists.specs.Tabulate.{tabulate, at}
-use Rattle.tile.specs.Generator.{startOf, nextOf, drawOf}
+use Rattle.tile.specs.Generator.{beginOf, nextOf, drawOf}
 
 -- "exchange entries i and j"
 unfoldable pub exchange : List ℕ → ℕ → ℕ → List ℕ
@@ -21,8 +21,9 @@ unfoldable pub own : List ℕ
 own = tabulate 64 (λ t. t)
 
 -- "Entry t is the target of column t. The answer is 64 entries ..; those from P on hold their own index."
-unfoldable pub permutationOf : ℕ → ℕ → ℕ → List ℕ
-permutationOf p cookie tile = shuffleOf (p - 1) (startOf cookie tile) own
+-- Document 02, order 8: "then the exchanges go as before, each with its own advance"
+unfoldable pub permutationOf : ℕ → ℕ → ℕ → ℕ → List ℕ
+permutationOf edition p cookie tile = shuffleOf (p - 1) (beginOf edition cookie tile) own
 
 -- the first index at which v stands
 unfoldable pub indexOf : List ℕ → ℕ → ℕ

@@ -3,7 +3,7 @@ ghost use mathlib.Core.Path.{_≡_};
 ghost use Prim.Native.Nat.{_*_, _%_, _^_, _≤_, _<_};
 ghost use lib.ListN.{length};
 ghost use Rattle.lists.specs.Tabulate.{at};
-ghost use Rattle.tile.specs.Generator.{startOf, nextOf, drawOf};
+ghost use Rattle.tile.specs.Generator.{startOf, nextOf, extra, beginOf, drawOf};
 ghost use Rattle.tile.specs.Permutation.{own, exchange, permutationOf, inverseOf};
 ghost use Rattle.tile.specs.Laws.{Permutes};
 
@@ -34,6 +34,9 @@ impl Generator {
     // How far apart the starts of neighbouring tiles lie.
     pub const SPREAD: u64 = 11400714819323198485;
 
+    // How many advances edition 2 makes before the exchanges begin.
+    pub const EXTRA: u64 = 4;
+
     pub fn start(cookie: u64, tile: u64) -> Self
         ensures { λ r. ⌜ r .state ≡ startOf cookie tile ⌝ }
     {
@@ -51,6 +54,25 @@ impl Generator {
                 Self::INCREMENT,
             ),
         }
+    }
+
+    fn extra_advances(edition: u64) -> u64
+        ensures { λ r. ⌜ r ≡ extra edition ⌝ }
+    {
+        if edition == 2 { Self::EXTRA } else { 0 }
+    }
+
+    // The generator from which the exchanges of a tile begin.
+    pub fn begin(edition: u64, cookie: u64, tile: u64) -> Self
+        ensures { λ r. ⌜ r .state ≡ beginOf edition cookie tile ⌝ }
+    {
+        let mut g = Self::start(cookie, tile);
+        let mut left = Self::extra_advances(edition);
+        while 0 < left {
+            g = g.advance();
+            left -= 1;
+        }
+        g
     }
 
     // A number up to i, from the upper half of the state.
@@ -87,12 +109,12 @@ fn swap(a: &mut [u8; 64], i: usize, j: usize)
 }
 
 // The target of each column of a tile.
-pub fn permutation(p: u64, cookie: u64, tile: u64) -> [u8; 64]
+pub fn permutation(edition: u64, p: u64, cookie: u64, tile: u64) -> [u8; 64]
     requires { ⌜ (1 ≤ p) × (p ≤ 64) ⌝ }
-    ensures { λ r. ⌜ r ≡ permutationOf p cookie tile ⌝ }
+    ensures { λ r. ⌜ r ≡ permutationOf edition p cookie tile ⌝ }
 {
     let mut a = own_indices();
-    let mut g = Generator::start(cookie, tile);
+    let mut g = Generator::begin(edition, cookie, tile);
     let mut i = p - 1;
     while 0 < i {
         g = g.advance();
@@ -134,9 +156,9 @@ pub fn column_of(a: &[u8; 64], t: u64) -> u64
 }
 
 // The column of each target of a tile.
-pub fn inverse(p: u64, cookie: u64, tile: u64) -> [u8; 64]
+pub fn inverse(edition: u64, p: u64, cookie: u64, tile: u64) -> [u8; 64]
     requires { ⌜ (1 ≤ p) × (p ≤ 64) ⌝ }
-    ensures { λ r. ⌜ r ≡ inverseOf (permutationOf p cookie tile) ⌝ }
+    ensures { λ r. ⌜ r ≡ inverseOf (permutationOf edition p cookie tile) ⌝ }
 {
-    inverted(permutation(p, cookie, tile))
+    inverted(permutation(edition, p, cookie, tile))
 }

@@ -23,7 +23,7 @@ use Rattle.trace.specs.Fields.{fieldsAt}
 unfoldable pub isLayout : List ℕ → Bool
 isLayout line = fieldsAt line 0 (2 ∷ 2 ∷ 2 ∷ 4 ∷ 6 ∷ 16 ∷ [])
 
--- the six numbers whose fields begin at place a
+-- the six numbers whose fields begin at place a; document 02, order 8: "Document 01's examples and the replay stay edition 1."
 unfoldable pub layoutAt : List ℕ → ℕ → Layout
 layoutAt line a =
     record {
@@ -33,6 +33,7 @@ layoutAt line a =
       u = numberAt line (a + 9) 4;
       t = numberAt line (a + 14) 6;
       cookie = numberAt line (a + 21) 16;
+      edition = 1;
     }
 
 -- ---- an event's line

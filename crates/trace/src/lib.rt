@@ -95,7 +95,7 @@ pub fn is_layout(line: &[u8]) -> bool
     has_fields(line, 0, [2, 2, 2, 4, 6, 16], 6)
 }
 
-// The six layout numbers whose fields begin at place `from`.
+// The layout of edition 1 whose six numbers' fields begin at place `from`.
 pub fn layout_at(line: &[u8], from: usize) -> Layout
     requires { ⌜ from + 37 ≤ length (now line) ⌝ }
     ensures { λ r. ⌜ r ≡ layoutAt (now (line .entry)) from ⌝ }
@@ -107,5 +107,6 @@ pub fn layout_at(line: &[u8], from: usize) -> Layout
         u: hex::number_at(line, from + 9, 4),
         t: hex::number_at(line, from + 14, 6),
         cookie: hex::number_at(line, from + 21, 16),
+        edition: 1,
     }
 }

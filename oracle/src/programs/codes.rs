@@ -20,11 +20,11 @@ pub fn output() -> String {
         let length = (shape.contents() * shape.u) as usize;
         agreeing(&mut out, &mut draws, &shape, &mut buffer[..length]);
         disagreeing(&mut out, &mut draws, &shape, &mut buffer[..length]);
-        refused(&mut out, &shape, index % 8, &mut buffer);
+        refused(&mut out, &shape, index % 10, &mut buffer);
     }
     for n in 1..=16 {
         for k in 1..=3 {
-            every_list(&mut out, &layout(n, k, n + 2 * k, 1, 1, 0));
+            every_list(&mut out, &small_layout(n, k, 1));
         }
     }
     out
@@ -68,7 +68,12 @@ fn drawn_layout(draws: &mut Draws) -> Layout {
         14 => 1 + draws.draw(4096),
         _ => 4096,
     };
-    layout(n, k, n + 2 * k, u.min(LONGEST / (n + k)), 1, 0)
+    small_layout(n, k, u.min(LONGEST / (n + k)))
+}
+
+/// One tile on as few targets as hold a group, in edition 1 where N is even.
+fn small_layout(n: u64, k: u64, u: u64) -> Layout {
+    layout(n, k, n + 2 * k, u, 1, 0).in_edition(1 + n % 2)
 }
 
 fn drawn_missing(draws: &mut Draws, shape: &Layout) -> Vec<u64> {
@@ -124,7 +129,9 @@ fn refused(out: &mut String, shape: &Layout, kind: u64, buffer: &mut [u8]) {
         4 => (*shape, exact + 1, vec![]),
         5 => (no_unit, exact, vec![contents]),
         6 => (*shape, exact + 1, vec![0, 0, 0, contents]),
-        _ => (*shape, 0, too_many),
+        7 => (*shape, 0, too_many),
+        8 => (shape.in_edition(0), exact, vec![]),
+        _ => (shape.in_edition(3), exact, too_many),
     };
     let label = format!("refused {kind}");
     rebuild_line(out, &label, &given, &mut buffer[..length], &missing);

@@ -1,9 +1,9 @@
 //! `examples`: document 01's checked examples of layouts, permutation, places,
-//! walk and offsets, in words.
+//! walk and offsets, in words, then the permutations of edition 2.
 
 use super::{line, spaced};
 use crate::layout::{layout, Layout};
-use crate::permutation::{advance, inverse, permutation, start};
+use crate::permutation::{advance, begin, inverse, permutation};
 use crate::place::{file_byte, image_byte, place, step, unit_at, Cursor, Step};
 
 /// The whole output.
@@ -14,11 +14,8 @@ pub fn output() -> String {
     numbers(&mut out, &layout(1, 0, 1, 1, 1, 0));
     numbers(&mut out, &layout(16, 3, 22, 1, 1, 0));
     numbers(&mut out, &layout(16, 3, 21, 1, 1, 0));
-    line!(out, "Generator states of cookie 0, tile 0");
-    states(&mut out);
-    line!(out, "Permutations of cookie 0, tile 0");
-    permutations(&mut out, &layout(1, 1, 3, 1, 1, 0));
-    permutations(&mut out, &layout(1, 1, 4, 4, 1, 0));
+    states(&mut out, 1, ["start", "state 1", "state 2", "state 3"]);
+    permutations(&mut out, 1);
     let example = layout(1, 1, 4, 4, 1, 0);
     line!(out, "Places of N=1 K=1 P=4 U=4 T=1 cookie 0");
     numbers(&mut out, &example);
@@ -35,6 +32,8 @@ pub fn output() -> String {
     }
     line!(out, "The slip of dividing by the spares too");
     slip(&mut out, &example);
+    states(&mut out, 2, ["state 4", "state 5", "state 6", "state 7"]);
+    permutations(&mut out, 2);
     out
 }
 
@@ -48,16 +47,27 @@ fn numbers(out: &mut String, shape: &Layout) {
     );
 }
 
-fn states(out: &mut String) {
-    let mut state = start(0, 0);
-    line!(out, "start: {}", state);
-    for i in 1..=3 {
+/// The state from which the exchanges go, and those of three exchanges.
+fn states(out: &mut String, edition: u64, names: [&str; 4]) {
+    line!(
+        out,
+        "Generator states of cookie 0, tile 0, edition {}",
+        edition
+    );
+    let mut state = begin(edition, 0, 0);
+    for name in names {
+        line!(out, "{}: {}", name, state);
         state = advance(state);
-        line!(out, "state {}: {}", i, state);
     }
 }
 
-fn permutations(out: &mut String, shape: &Layout) {
+fn permutations(out: &mut String, edition: u64) {
+    line!(out, "Permutations of cookie 0, tile 0, edition {}", edition);
+    permutation_line(out, &layout(1, 1, 3, 1, 1, 0).in_edition(edition));
+    permutation_line(out, &layout(1, 1, 4, 4, 1, 0).in_edition(edition));
+}
+
+fn permutation_line(out: &mut String, shape: &Layout) {
     let shown = shape.p as usize;
     let there = permutation(shape, 0).1;
     let back = inverse(shape, 0).1;

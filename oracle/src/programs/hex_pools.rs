@@ -33,7 +33,7 @@ fn drawn_layout(draws: &mut Draws) -> Layout {
     let u = 1 + draws.draw(12);
     let t = 1 + draws.draw(2);
     let cookie = draws.high();
-    layout(n, k, p, u, t, cookie)
+    layout(n, k, p, u, t, cookie).in_edition(1 + draws.draw(2))
 }
 
 fn pool(out: &mut String, shape: &Layout, image: &[u8]) {
@@ -84,10 +84,12 @@ fn long_unit(out: &mut String, draws: &mut Draws) {
 
 fn refusals(out: &mut String, three: &Layout) {
     let no_unit = Layout { u: 0, ..*three };
-    let ones = layout(ONES, ONES, ONES, ONES, ONES, ONES);
+    let ones = layout(ONES, ONES, ONES, ONES, ONES, ONES).in_edition(ONES);
     refused(out, three, 6, 2, 0, 15);
     refused(out, &no_unit, 6, 2, 0, 15);
     refused(out, &ones, 6, 2, 0, 15);
+    refused(out, &three.in_edition(0), 6, 2, 0, 15);
+    refused(out, &three.in_edition(3), 6, 2, 0, 15);
     refused(out, three, 5, 2, 0, 15);
     refused(out, three, 7, 2, 0, 15);
     refused(out, three, 0, 2, 0, 15);

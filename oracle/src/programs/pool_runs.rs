@@ -163,7 +163,7 @@ fn drawn_layout(draws: &mut Draws) -> Layout {
     };
     let t = 1 + draws.draw((units / u).min(32));
     let cookie = draws.high();
-    layout(n, k, p, u, t, cookie)
+    layout(n, k, p, u, t, cookie).in_edition(1 + draws.draw(2))
 }
 
 fn drawn_range(draws: &mut Draws, shape: &Layout) -> (u64, u64) {
@@ -241,7 +241,7 @@ impl Run {
             11 => self.repair(),
             12 | 13 => self.drawn_look(draws),
             14 => self.scribble(draws),
-            15 => self.bad(draws.draw(13)),
+            15 => self.bad(draws.draw(15)),
             16 => self.panel(),
             _ => self.drawn_count(draws),
         }
@@ -407,7 +407,9 @@ impl Run {
             9 => (no_unit, ones, 0),
             10 => (shape, ones, whole - 1),
             11 => (shape, counted(most_missing(&shape) + 1), whole),
-            _ => (shape, counted(ONES), whole),
+            12 => (shape, counted(ONES), whole),
+            13 => (shape.in_edition(0), record, whole),
+            _ => (shape.in_edition(3), record, whole),
         }
     }
 

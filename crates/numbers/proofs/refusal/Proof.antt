@@ -39,12 +39,24 @@ returns-8 c = sym (refuses _ (λ v. omega arith))
 returns-9 : tie.Need-returns-9
 returns-9 c = sym (refuses _ (λ v. omega arith))
 
--- the path leads back to the first test, which lies too far for `omega` to find
 returns-10 : tie.Need-returns-10
-returns-10 c =
+returns-10 c = sym (refuses _ (λ v. omega arith))
+
+returns-11 : tie.Need-returns-11
+returns-11 c = sym (refuses _ (λ v. omega arith))
+
+-- the first tests lie too far back for `omega` to find
+returns-12 : tie.Need-returns-12
+returns-12 c =
     sym
     (accepts _
-    (omega (arith, c .before .before .before .before .before .before .before .before .before .before .before .before .before .before .before .before .before .before)))
+    (omega (
+      arith,
+      c .before .before .before .before .before .before .before .before .before .before .before .before .before .before .before .before .before .before .before .before .before .before .if1 .left,
+      c .before .before .before .before .before .before .before .before .before .before .before .before .before .before .before .before .before .before .before .before .if2 .left,
+      c .before .before .before .before .before .before .before .before .before .before .before .before .before .before .before .before .before .before .if3 .left,
+      c .before .before .before .before .before .before .before .before .before .before .before .before .before .before .if4 .left,
+    )))
 
 pub refusal-spec : {M : Type 1} → statement M
 refusal-spec =
@@ -61,4 +73,6 @@ refusal-spec =
     returns-7
     returns-8
     returns-9
-    returns-10)
+    returns-10
+    returns-11
+    returns-12)

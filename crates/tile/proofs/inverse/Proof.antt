@@ -14,7 +14,7 @@ permutation-requires : tie.Need-permutation-requires
 permutation-requires c κs = search needs
 
 inverted-requires : tie.Need-inverted-requires
-inverted-requires c κs = subst (λ (l : List ℕ). Permutes 64 l) (sym (c .permutation .ensures)) (permutation-bijection (c .before .args .p) (c .before .args .cookie) (c .before .args .tile) (omega arith) (omega arith) 64 (omega arith) (le-refl 64))
+inverted-requires c κs = subst (λ (l : List ℕ). Permutes 64 l) (sym (c .permutation .ensures)) (permutation-bijection (c .before .args .edition) (c .before .args .p) (c .before .args .cookie) (c .before .args .tile) (omega arith) (omega arith) 64 (omega arith) (le-refl 64))
 
 returns : tie.Need-returns
 returns c = c .inverted .ensures ∙ ap inverseOf (c .before .permutation .ensures)

@@ -4,23 +4,23 @@ use Prim.Native.Nat.{ℕ, _-_, _<_}
 use native.Mathlib.Omega.{arith}
 use lib.ListN.{length}
 use borrow.Author.Needs.{needs}
-use Rattle.tile.specs.Generator.{startOf, nextOf, drawOf}
+use Rattle.tile.specs.Generator.{beginOf, nextOf, drawOf}
 use Rattle.tile.specs.Permutation.{exchange, shuffleOf, permutationOf}
 use Rattle.tile.specs.Laws.{length-own, length-exchange, shuffle-step}
 use Rattle.tile.proofs.permutation.Statement.{statement}
 use Rattle.tile.proofs.permutation.Tie as tie
 
 abbrev Inv-loop : tie.InvT-loop
-Inv-loop p cookie tile a₀ g₀ i₀ a g i = (i < 64) × (length a ≡ 64) × (shuffleOf i (g .state) a ≡ permutationOf p cookie tile)
+Inv-loop edition p cookie tile a₀ g₀ i₀ a g i = (i < 64) × (length a ≡ 64) × (shuffleOf i (g .state) a ≡ permutationOf edition p cookie tile)
 
 abbrev μ-loop : tie.MeasureT-loop
-μ-loop p cookie tile a₀ g₀ i₀ a g i = i
+μ-loop edition p cookie tile a₀ g₀ i₀ a g i = i
 
 own-indices-requires : tie.Need-own-indices-requires Inv-loop μ-loop
 own-indices-requires c κs = search needs
 
-start-requires : tie.Need-start-requires Inv-loop μ-loop
-start-requires c κs = search needs
+begin-requires : tie.Need-begin-requires Inv-loop μ-loop
+begin-requires c κs = search needs
 
 sub-i : tie.Need-sub-i Inv-loop μ-loop
 sub-i c = search needs
@@ -30,8 +30,8 @@ unfolding permutationOf
 loop-holds c = (
   search needs,
   ap length (c .before .own-indices .ensures) ∙ length-own,
-  ap (λ (s : ℕ). shuffleOf (c .before .before .args .p - 1) s (c .before .own-indices .result)) (c .start .ensures)
-      ∙ ap (shuffleOf (c .before .before .args .p - 1) (startOf (c .before .before .args .cookie) (c .before .before .args .tile))) (c .before .own-indices .ensures),
+  ap (λ (s : ℕ). shuffleOf (c .before .before .args .p - 1) s (c .before .own-indices .result)) (c .begin .ensures)
+      ∙ ap (shuffleOf (c .before .before .args .p - 1) (beginOf (c .before .before .args .edition) (c .before .before .args .cookie) (c .before .before .args .tile))) (c .before .own-indices .ensures),
 )
 
 advance-requires : tie.Need-advance-requires Inv-loop μ-loop
@@ -78,7 +78,7 @@ permutation-spec =
     Inv-loop
     μ-loop
     own-indices-requires
-    start-requires
+    begin-requires
     sub-i
     loop-holds
     advance-requires

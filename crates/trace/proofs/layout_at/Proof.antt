@@ -48,6 +48,7 @@ returns c =
       u = c .before .before .number-at4 .ensures i;
       t = c .before .number-at5 .ensures i;
       cookie = c .number-at6 .ensures i;
+      edition = 1;
     }
 
 pub layout-at-spec : {M : Type 1} → statement M
