@@ -4,7 +4,7 @@
 #
 # SPLICEBELL_ARCHIVE_DIR=FOLDER   takes the library there, or the archive, instead of building it.
 # SPLICEBELL_PROCESSOR=LEVEL      on x86-64: the level whose code is timed (docs/ABI.md). Products have the lowest alone.
-# SPLICEBELL_BEFORE=FOLDER        an earlier one: its calls are timed in turns with ours, as `before`.
+# SPLICEBELL_BEFORE=FOLDER        an earlier one, of version 3.1.0: its calls are timed in turns with ours, as `before`.
 # ZFEC=FOLDER                     where zfec's fec.c and fec.h lie; by default where Debian's python3-zfec puts them.
 . scripts/host.sh
 

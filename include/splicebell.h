@@ -19,6 +19,16 @@
 #include <stddef.h>
 #include <stdint.h>
 
+/* The interface's number: the first number of VERSION, and the shared library's. It goes up where a program
+ * built before could not run with the library, since a struct or a call has changed; a new call leaves it as
+ * it is. A program can ask for the header that it was written for:
+ *
+ *     #if SPLICEBELL_INTERFACE != 4
+ *     #error "docs/ABI.md, The interface's number, says what has changed"
+ *     #endif
+ */
+#define SPLICEBELL_INTERFACE 4
+
 #ifdef __cplusplus
 extern "C" {
 #endif
@@ -46,9 +56,12 @@ enum splicebell_refusal {
     SPLICEBELL_BAD_PLAN = 15           /* a plan of repair that is not accepted */
 };
 
-/* N data, K parity and K spare units a group, P targets, U bytes a unit, T tiles, the permutations' cookie. */
+/* N data, K parity and K spare units a group, P targets, U bytes a unit, T tiles, the permutations' cookie and
+ * edition. Edition 1: document 01's permutations, those of every row that was installed while there was no
+ * other. Edition 2: the generator is advanced four times more before the exchanges. Another is refused with 1,
+ * so also the 0 of a layout whose edition was never set. */
 typedef struct splicebell_layout {
-    uint64_t n, k, p, u, t, cookie;
+    uint64_t n, k, p, u, t, cookie, edition;
 } splicebell_layout;
 
 /* The first k entries are the failed targets, in order; the first q of them have been repaired. waiting is the
@@ -372,21 +385,22 @@ splicebell_text_read splicebell_read_text(splicebell_layout y, const uint8_t *te
 
 /* ---- a recorded day, replayed line by line: lower-case hex, single spaces, each line lent with its newline
  *
- * NN KK PP UUUU TTTTTT CCCCCCCCCCCCCCCC    the first line: the six layout numbers
+ * NN KK PP UUUU TTTTTT CCCCCCCCCCCCCCCC    the first line: six layout numbers; the edition is 1
  * 01 OOOOOOOOOOOOOOOO BB..                 write: offset, bytes
  * 02 TT                                    fail: target
  * 03                                       repair
  * 04 OOOOOOOOOOOOOOOO LLLLLLLLLLLLLLLL     read: offset, length */
 
-/* The layout that the first line tells, and the bytes of the image, which is zeros when the replay begins. The
- * line is only read.
+/* The layout that the first line tells, of edition 1, and the bytes of the image, which is zeros when the
+ * replay begins. The line is only read.
  * Refusals: 1, 13 (malformed, or an image above 32,768 bytes). Refused: all numbers are 0. */
 splicebell_first_line splicebell_replay_first(const uint8_t *line, size_t line_len);
 
-/* Plays any other line. The first length bytes of answer become what a replay prints, with the newline: the
- * number that the event's own call answers, 13 where the line is malformed (also one that has no newline, or
- * more than 8,300 bytes before it); after an accepted read its bytes, after an accepted repair its count. The
- * rest of answer stays. Image and record become what that call leaves. The line is only read.
+/* Plays any other line, on a layout of either edition. The first length bytes of answer become what a replay
+ * prints, with the newline: the number that the event's own call answers, 13 where the line is malformed (also
+ * one that has no newline, or more than 8,300 bytes before it); after an accepted read its bytes, after an
+ * accepted repair its count. The rest of answer stays. Image and record become what that call leaves. The line
+ * is only read.
  * Refusals: 5 (answer_len < 24 + 2*image_len). Refused: answer is all zeros, image and record are unchanged. */
 splicebell_played splicebell_replay_line(splicebell_layout y, splicebell_record r, uint8_t *image,
                                          size_t image_len, const uint8_t *line, size_t line_len,

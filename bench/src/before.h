@@ -1,60 +1,43 @@
-/* The calls of an earlier archive, under names of their own, where SPLICEBELL_BEFORE names its folder (build.sh). */
+/* The calls of an earlier archive, under names of their own, where SPLICEBELL_BEFORE names its folder (build.sh): one of
+ * version 3.1.0, the last before document 02's order 8. */
 #ifndef BEFORE_H
 #define BEFORE_H
 
 #include "splicebell.h"
 
-uint64_t before_encode(splicebell_layout y, uint8_t *buf, size_t len);
-uint64_t before_rebuild(splicebell_layout y, const uint64_t *missing, size_t missing_count, uint8_t *buf, size_t len);
+/* The layout as it was, without the edition: 48 bytes. It means edition 1. */
+typedef struct before_layout {
+    uint64_t n, k, p, u, t, cookie;
+} before_layout;
 
-/* The failure record as it was before document 02's order 6, without the count of missing units: 40 bytes. */
-typedef struct before_record {
-    uint64_t failed[3];
-    uint64_t k, q;
-} before_record;
+static inline before_layout without_edition(splicebell_layout y)
+{
+    return (before_layout){y.n, y.k, y.p, y.u, y.t, y.cookie};
+}
 
-typedef struct before_failed {
-    uint64_t refusal;
-    before_record record;
-} before_failed;
-
-typedef struct before_repaired {
-    uint64_t refusal, count;
-    before_record record;
-} before_repaired;
-
-uint64_t before_read(splicebell_layout y, before_record r, const uint8_t *image, size_t image_len, uint64_t offset,
+splicebell_entries before_tile_permutation(before_layout y, uint64_t tile);
+splicebell_mapped before_map_offset(before_layout y, uint64_t offset);
+uint64_t before_encode(before_layout y, uint8_t *buf, size_t len);
+uint64_t before_rebuild(before_layout y, const uint64_t *missing, size_t missing_count, uint8_t *buf, size_t len);
+uint64_t before_read(before_layout y, splicebell_record r, const uint8_t *image, size_t image_len, uint64_t offset,
                      uint8_t *out, size_t out_len);
-uint64_t before_write(splicebell_layout y, before_record r, uint8_t *image, size_t image_len, uint64_t offset,
+uint64_t before_write(before_layout y, splicebell_record r, uint8_t *image, size_t image_len, uint64_t offset,
                       const uint8_t *bytes, size_t bytes_len);
-before_repaired before_repair(splicebell_layout y, before_record r, uint8_t *image, size_t image_len);
-before_failed before_fail(splicebell_layout y, before_record r, const uint8_t *image, size_t image_len,
-                          uint64_t target);
-
-/* The catalogue as it was before document 02's order 5, with file and cob numbers of one word: records of 24 bytes. */
-typedef struct before_entry {
-    uint64_t device, file, cob;
-} before_entry;
-
-typedef struct before_key {
-    uint64_t device, file;
-} before_key;
-
-typedef struct before_found {
-    uint64_t refusal, cob;
-} before_found;
-
-typedef struct before_page {
-    uint64_t refusal;
-    size_t count;
-    bool more;
-    uint64_t next;
-} before_page;
-
-before_found before_lookup(const before_entry *slots, size_t slot_count, size_t n, before_key key);
-splicebell_changed before_insert(before_entry *slots, size_t slot_count, size_t n, before_entry record);
-splicebell_changed before_delete(before_entry *slots, size_t slot_count, size_t n, before_entry record);
-before_page before_listing(const before_entry *slots, size_t slot_count, size_t n, before_key from, uint64_t *out,
-                           size_t out_len);
+splicebell_repaired before_repair(before_layout y, splicebell_record r, uint8_t *image, size_t image_len);
+splicebell_failed before_fail(before_layout y, splicebell_record r, const uint8_t *image, size_t image_len,
+                              uint64_t target);
+uint64_t before_audit(before_layout y, splicebell_record r, const uint8_t *image, size_t image_len);
+splicebell_counts before_panel(before_layout y, splicebell_record r, const uint8_t *image, size_t image_len);
+uint64_t before_check_plan(before_layout y, splicebell_record r, const uint8_t *image, size_t image_len,
+                           const uint64_t *plan, size_t plan_len);
+splicebell_repaired before_repair_by(before_layout y, splicebell_record r, uint8_t *image, size_t image_len,
+                                     const uint64_t *plan, size_t plan_len);
+splicebell_drawn before_draw_plan(before_layout y, splicebell_record r, const uint8_t *image, size_t image_len,
+                                  uint64_t *plan, size_t plan_len);
+splicebell_found before_lookup(const splicebell_entry *slots, size_t slot_count, size_t n, splicebell_key key);
+splicebell_changed before_insert(splicebell_entry *slots, size_t slot_count, size_t n, splicebell_entry record);
+splicebell_changed before_delete(splicebell_entry *slots, size_t slot_count, size_t n, splicebell_entry record);
+splicebell_page before_listing(const splicebell_entry *slots, size_t slot_count, size_t n, splicebell_key from,
+                               splicebell_wide *out, size_t out_len);
 
 #endif

@@ -5,10 +5,9 @@
 #include "bench.h"
 #include "splicebell.h"
 
-/* Who answers the catalogue's calls: ours, the twin, or an earlier archive, whose records are its own. */
+/* Who answers the catalogue's calls: ours, the twin, or an earlier archive. */
 struct cataloguer {
     const char *name;
-    size_t words; /* of 64 bits, of a file's or a cob's number */
     splicebell_found (*lookup)(const splicebell_entry *, size_t, size_t, splicebell_key);
     splicebell_changed (*insert)(splicebell_entry *, size_t, size_t, splicebell_entry);
     splicebell_changed (*take_out)(splicebell_entry *, size_t, size_t, splicebell_entry);
@@ -19,7 +18,7 @@ extern const struct cataloguer *const cataloguers[ANSWERERS]; /* ours first */
 
 struct catalogue {
     const struct cataloguer *calls;
-    void *slots; /* one more than there are records */
+    splicebell_entry *slots; /* one more than there are records */
     size_t slot_count, n;
     uint64_t state; /* of the drawn keys */
 };
@@ -34,12 +33,6 @@ splicebell_entry new_record(const struct catalogue *c, size_t i);
 /* A number of 64 bits as a pair, and back. Pairs have the order of the numbers, which neither word has alone. */
 splicebell_wide pair_of(uint64_t number);
 uint64_t number_of(splicebell_wide pair);
-
-/* Records among the slots, and cobs in the output of a listing, as pairs whoever answers. */
-splicebell_entry record_at(const struct catalogue *c, size_t i);
-void put_record(struct catalogue *c, size_t i, splicebell_entry e);
-splicebell_wide cob_at(const struct catalogue *c, const splicebell_wide *out, size_t i);
-void put_cob(const struct catalogue *c, splicebell_wide *out, size_t i, splicebell_wide cob);
 
 /* One call of each, at a drawn key; but the second inserts a new key and deletes it again, and the last gives a count
  * above the slots. */

@@ -24,17 +24,14 @@ struct answered {
 
 static void answer_listing(const struct catalogue *c, const struct asked *a, struct answered *x)
 {
-    splicebell_wide out[LISTED];
     for (size_t i = 0; i < LISTED; i++)
-        put_cob(c, out, i, pair_of(1000 + i));
+        x->out[i] = pair_of(1000 + i);
     splicebell_key from = {a->record.device, a->record.file};
-    splicebell_page p = c->calls->listing(c->slots, c->slot_count, a->n, from, out, a->room);
+    splicebell_page p = c->calls->listing(c->slots, c->slot_count, a->n, from, x->out, a->room);
     x->refusal = p.refusal;
     x->count = p.count;
     x->more = p.more;
     x->number = p.next;
-    for (size_t i = 0; i < LISTED; i++)
-        x->out[i] = cob_at(c, out, i);
 }
 
 static struct answered answer(const struct catalogue *c, const struct asked *a)
@@ -64,10 +61,8 @@ static void ask(struct catalogue *all, struct asked a, uint64_t refusal)
     for (size_t i = 1; i < ANSWERERS; i++) {
         struct answered theirs = answer(&all[i], &a);
         must(memcmp(&ours, &theirs, sizeof ours) == 0, "the same answer of a catalogue's call from all");
-        for (size_t j = 0; j < all->slot_count; j++) {
-            splicebell_entry e = record_at(&all[0], j), f = record_at(&all[i], j);
-            must(memcmp(&e, &f, sizeof e) == 0, "the same records left by all");
-        }
+        size_t bytes = all->slot_count * sizeof *all->slots;
+        must(memcmp(all[0].slots, all[i].slots, bytes) == 0, "the same records left by all");
     }
 }
 
@@ -111,7 +106,7 @@ static void refused_by_all_calls(struct catalogue *all, size_t n)
 static void put_everywhere(struct catalogue *all, size_t i, splicebell_entry e)
 {
     for (size_t j = 0; j < ANSWERERS; j++)
-        put_record(&all[j], i, e);
+        all[j].slots[i] = e;
 }
 
 /* Counts above the slots, also where all of those records rise; then two neighbours with one key, and in each other's
@@ -126,7 +121,7 @@ static void compare_refusals(struct catalogue *all)
     for (size_t j = 0; j < ANSWERERS; j++)
         all[j].slot_count += 2;
     for (size_t i = 0; i < sizeof places / sizeof *places; i++) {
-        splicebell_entry lower = record_at(all, places[i] - 1), higher = record_at(all, places[i]);
+        splicebell_entry lower = all->slots[places[i] - 1], higher = all->slots[places[i]];
         put_everywhere(all, places[i], lower);
         refused_by_all_calls(all, n);
         put_everywhere(all, places[i] - 1, higher);

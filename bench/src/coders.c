@@ -46,7 +46,7 @@ void sources_of(const struct group *g, unsigned sources[MOST_N])
 /* Loses every other data unit, from unit 1 on where there are enough of them. */
 struct group group_of(uint64_t n, uint64_t k, uint64_t u, size_t lost)
 {
-    struct group g = {.y = {n, k, n + 2 * k, u, 1, 0}, .length = (n + k) * u, .lost = lost};
+    struct group g = {.y = {n, k, n + 2 * k, u, 1, 0, 1}, .length = (n + k) * u, .lost = lost};
     g.buf = room(g.length);
     fill(g.buf, g.length, n + k + u);
     for (size_t i = 0; i < lost; i++)
@@ -82,13 +82,13 @@ static void twin_rebuilds(void *context)
 static void before_encodes(void *context)
 {
     struct group *g = context;
-    must(before_encode(g->y, g->buf, g->length) == 0, "encode accepted");
+    must(before_encode(without_edition(g->y), g->buf, g->length) == 0, "encode accepted");
 }
 
 static void before_rebuilds(void *context)
 {
     struct group *g = context;
-    must(before_rebuild(g->y, g->missing, g->lost, g->buf, g->length) == 0, "rebuild accepted");
+    must(before_rebuild(without_edition(g->y), g->missing, g->lost, g->buf, g->length) == 0, "rebuild accepted");
 }
 
 static const struct coder before = {"before", NULL, before_encodes, before_rebuilds};

@@ -59,11 +59,6 @@ const struct plan_call *plan_call_named(const char *what)
     return NULL;
 }
 
-bool has_plan_call(const struct answerer *a, const struct plan_call *c)
-{
-    return c->work == repair_plainly || a->repair_by != NULL;
-}
-
 static size_t entry_size(const struct pool *p)
 {
     return p->y.n + 2;
@@ -159,8 +154,6 @@ static void compare(const struct pool *p)
     splicebell_repaired wanted = splicebell_repair(p->y, p->r, repaired, p->m.image);
     must(memcmp(repaired, p->image, p->m.image) != 0, "another image once it is repaired");
     for (size_t a = 0; a < ANSWERERS; a++) {
-        if (!answerers[a]->repair_by)
-            continue;
         struct planned in_order = planned_for(p, false, answerers[a]), scattered = planned_for(p, true, answerers[a]);
         compare_drawn(&in_order);
         compare_refused(&in_order);
@@ -177,22 +170,19 @@ static void compare(const struct pool *p)
 /* Seconds of one call; all are timed in turns, since each is compared with the first. */
 static void time_all(const struct pool *p, double seconds[CALLS][ANSWERERS])
 {
-    struct planned planned[CALLS * ANSWERERS];
+    struct planned planned[CALLS][ANSWERERS];
     struct timed t[CALLS * ANSWERERS];
-    double *into[CALLS * ANSWERERS];
-    size_t count = 0;
     for (size_t c = 0; c < CALLS; c++)
-        for (size_t a = 0; a < ANSWERERS; a++)
-            if (has_plan_call(answerers[a], &plan_calls[c])) {
-                planned[count] = planned_for(p, plan_calls[c].scattered, answerers[a]);
-                t[count] = (struct timed){plan_calls[c].work, &planned[count], 0};
-                into[count++] = &seconds[c][a];
-            }
-    time_in_turns(t, count);
-    for (size_t i = 0; i < count; i++) {
-        *into[i] = t[i].seconds;
-        free(planned[i].plan);
-    }
+        for (size_t a = 0; a < ANSWERERS; a++) {
+            planned[c][a] = planned_for(p, plan_calls[c].scattered, answerers[a]);
+            t[c * ANSWERERS + a] = (struct timed){plan_calls[c].work, &planned[c][a], 0};
+        }
+    time_in_turns(t, CALLS * ANSWERERS);
+    for (size_t c = 0; c < CALLS; c++)
+        for (size_t a = 0; a < ANSWERERS; a++) {
+            seconds[c][a] = t[c * ANSWERERS + a].seconds;
+            free(planned[c][a].plan);
+        }
 }
 
 static void row(const struct pool *p, const struct plan_call *c, const double seconds[ANSWERERS], double repair)
@@ -200,10 +190,7 @@ static void row(const struct pool *p, const struct plan_call *c, const double se
     double of_repair = seconds[0] / repair;
     printf("%-36s %10.0f %10.2f", c->what, seconds[0] * 1e6, of_repair);
     for (size_t a = 1; a < ANSWERERS; a++)
-        if (has_plan_call(answerers[a], c))
-            printf(" %10.0f (%9.2f)", seconds[a] * 1e6, seconds[a] / seconds[0]);
-        else
-            printf(" %10s (%9s)", "-", "-");
+        printf(" %10.0f (%9.2f)", seconds[a] * 1e6, seconds[a] / seconds[0]);
     printf("\n");
     char name[80];
     snprintf(name, sizeof name, "%s / plain repair, %d failed", c->what, (int)p->r.k);

@@ -22,9 +22,6 @@ extern const struct plan_call plan_calls[];
 extern const size_t plan_call_count;
 const struct plan_call *plan_call_named(const char *what);
 
-/* An earlier archive has plain repair alone. */
-bool has_plan_call(const struct answerer *a, const struct plan_call *c);
-
 /* Our plan for the pool as its record has it, its entries scattered or as they are drawn. */
 struct planned planned_for(const struct pool *p, bool scattered, const struct answerer *a);
 

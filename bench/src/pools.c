@@ -16,44 +16,60 @@ const struct answerer twin_calls = {
 };
 
 #ifdef WITH_BEFORE
-/* The earlier calls, by a record without the count. What they hand back has none: it is 0, as after any repair. */
-static before_record short_record(splicebell_record r)
-{
-    return (before_record){{r.failed[0], r.failed[1], r.failed[2]}, r.k, r.q};
-}
-
-static splicebell_record long_record(before_record r)
-{
-    return (splicebell_record){{r.failed[0], r.failed[1], r.failed[2]}, r.k, r.q, 0};
-}
-
 static uint64_t read_before(splicebell_layout y, splicebell_record r, const uint8_t *image, size_t image_len,
                             uint64_t offset, uint8_t *out, size_t out_len)
 {
-    return before_read(y, short_record(r), image, image_len, offset, out, out_len);
+    return before_read(without_edition(y), r, image, image_len, offset, out, out_len);
 }
 
 static uint64_t write_before(splicebell_layout y, splicebell_record r, uint8_t *image, size_t image_len,
                              uint64_t offset, const uint8_t *bytes, size_t bytes_len)
 {
-    return before_write(y, short_record(r), image, image_len, offset, bytes, bytes_len);
+    return before_write(without_edition(y), r, image, image_len, offset, bytes, bytes_len);
 }
 
 static splicebell_repaired repair_before(splicebell_layout y, splicebell_record r, uint8_t *image, size_t image_len)
 {
-    before_repaired x = before_repair(y, short_record(r), image, image_len);
-    return (splicebell_repaired){x.refusal, x.count, long_record(x.record)};
+    return before_repair(without_edition(y), r, image, image_len);
 }
 
 static splicebell_failed fail_before(splicebell_layout y, splicebell_record r, const uint8_t *image, size_t image_len,
                                      uint64_t target)
 {
-    before_failed x = before_fail(y, short_record(r), image, image_len, target);
-    return (splicebell_failed){x.refusal, long_record(x.record)};
+    return before_fail(without_edition(y), r, image, image_len, target);
+}
+
+static uint64_t audit_before(splicebell_layout y, splicebell_record r, const uint8_t *image, size_t image_len)
+{
+    return before_audit(without_edition(y), r, image, image_len);
+}
+
+static splicebell_counts panel_before(splicebell_layout y, splicebell_record r, const uint8_t *image, size_t image_len)
+{
+    return before_panel(without_edition(y), r, image, image_len);
+}
+
+static uint64_t check_plan_before(splicebell_layout y, splicebell_record r, const uint8_t *image, size_t image_len,
+                                  const uint64_t *plan, size_t plan_len)
+{
+    return before_check_plan(without_edition(y), r, image, image_len, plan, plan_len);
+}
+
+static splicebell_repaired repair_by_before(splicebell_layout y, splicebell_record r, uint8_t *image, size_t image_len,
+                                            const uint64_t *plan, size_t plan_len)
+{
+    return before_repair_by(without_edition(y), r, image, image_len, plan, plan_len);
+}
+
+static splicebell_drawn draw_plan_before(splicebell_layout y, splicebell_record r, const uint8_t *image,
+                                         size_t image_len, uint64_t *plan, size_t plan_len)
+{
+    return before_draw_plan(without_edition(y), r, image, image_len, plan, plan_len);
 }
 
 static const struct answerer before_calls = {
-    "before", read_before, write_before, repair_before, fail_before, NULL, NULL, NULL, NULL, NULL,
+    "before", read_before, write_before, repair_before, fail_before, audit_before, panel_before,
+    check_plan_before, repair_by_before, draw_plan_before,
 };
 #endif
 
@@ -69,7 +85,7 @@ enum { GROUPS_A_CALL = 32 };
 
 struct pool pool_of(uint64_t n, uint64_t k, uint64_t p, uint64_t u, uint64_t t)
 {
-    struct pool pool = {.y = {n, k, p, u, t, 7}, .calls = &our_calls};
+    struct pool pool = {.y = {n, k, p, u, t, 7, 1}, .calls = &our_calls};
     splicebell_measured m = splicebell_measure(pool.y);
     must(m.refusal == 0, "a layout within its bounds");
     pool.m = m.numbers;

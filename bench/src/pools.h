@@ -5,7 +5,7 @@
 #include "bench.h"
 #include "splicebell.h"
 
-/* Who answers the pool's calls: ours, the twin, or an earlier archive. A call that it has not is NULL. */
+/* Who answers the pool's calls: ours, the twin, or an earlier archive. The twin's panel, which it has not, is NULL. */
 struct answerer {
     const char *name;
     uint64_t (*read)(splicebell_layout, splicebell_record, const uint8_t *, size_t, uint64_t, uint8_t *, size_t);
@@ -47,7 +47,7 @@ extern const struct pass passes[];
 extern const size_t pass_count;
 const struct pass *pass_named(const char *name);
 
-/* The bench's pool: 8+2 over 24 targets, units of 4 KiB, full of drawn bytes. */
+/* The bench's pool: 8+2 over 24 targets, units of 4 KiB, edition 1, full of drawn bytes. */
 struct pool pool_of(uint64_t n, uint64_t k, uint64_t p, uint64_t u, uint64_t t);
 struct pool bench_pool(uint64_t tiles);
 void pool_free(struct pool *p);

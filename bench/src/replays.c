@@ -408,7 +408,7 @@ void run_replays(void)
     bool with_program = has_program();
     if (!with_program)
         printf("\n%s: cannot be run here, skipped (SPLICEBELL_REPLAY names another)\n", program());
-    table((splicebell_layout){4, 2, 9, 16, 28, 7}, with_program);
-    table((splicebell_layout){8, 2, 12, 512, 5, 7}, with_program);
-    table((splicebell_layout){2, 1, 4, 1024, 8, 7}, with_program);
+    table((splicebell_layout){4, 2, 9, 16, 28, 7, 1}, with_program);
+    table((splicebell_layout){8, 2, 12, 512, 5, 7, 1}, with_program);
+    table((splicebell_layout){2, 1, 4, 1024, 8, 7, 1}, with_program);
 }

@@ -14,7 +14,7 @@ enum { TILES_OF_4K = 341 };
 
 struct text text_of(uint64_t unit, uint64_t tiles)
 {
-    struct text t = {.y = {8, 2, 24, unit, tiles, 7}, .calls = &our_text_calls};
+    struct text t = {.y = {8, 2, 24, unit, tiles, 7, 1}, .calls = &our_text_calls};
     splicebell_measured m = splicebell_measure(t.y);
     must(m.refusal == 0, "a layout within its bounds");
     t.image_len = m.numbers.image;

@@ -32,6 +32,7 @@ splicebell_changed twin_insert(splicebell_entry *slots, size_t slot_count, size_
 splicebell_changed twin_delete(splicebell_entry *slots, size_t slot_count, size_t n, splicebell_entry record);
 splicebell_page twin_listing(const splicebell_entry *slots, size_t slot_count, size_t n, splicebell_key from,
                              splicebell_wide *out, size_t out_len);
+splicebell_entries twin_tile_permutation(splicebell_layout y, uint64_t tile);
 splicebell_mapped twin_map_offset(splicebell_layout y, uint64_t offset);
 
 #endif

@@ -85,7 +85,7 @@ static void map_one(void *context)
 static int work_on_map(const char *name, long repeats)
 {
     bool is_ours = strcmp(name, "map:ours") == 0;
-    struct mapping m = {{8, 2, 24, 4096, 2730, 7}, is_ours ? splicebell_map_offset : twin_map_offset, 9};
+    struct mapping m = {{8, 2, 24, 4096, 2730, 7, 1}, is_ours ? splicebell_map_offset : twin_map_offset, 9};
     return repeat(map_one, &m, repeats, 1, 1);
 }
 

@@ -9,6 +9,7 @@ pub struct Layout {
     pub u: u64,
     pub t: u64,
     pub cookie: u64,
+    pub edition: u64,
 }
 
 /// A layout with the numbers that follow from it, worked out once a call.
@@ -25,6 +26,10 @@ fn common_divisor(a: u64, b: u64) -> u64 {
     } else {
         common_divisor(b, a % b)
     }
+}
+
+fn advanced(state: u64) -> u64 {
+    state.wrapping_mul(6364136223846793005).wrapping_add(1442695040888963407)
 }
 
 impl Shape {
@@ -52,10 +57,13 @@ impl Shape {
     /// Entry c is the target of column c.
     pub fn permutation(&self, tile: u64) -> [u8; 64] {
         let mut state = self.layout.cookie.wrapping_add(11400714819323198485u64.wrapping_mul(tile));
+        if self.layout.edition == 2 {
+            (0..4).for_each(|_| state = advanced(state));
+        }
         let mut entries = [0; 64];
         (0..64).for_each(|t| entries[t] = t as u8);
         for i in (1..self.layout.p).rev() {
-            state = state.wrapping_mul(6364136223846793005).wrapping_add(1442695040888963407);
+            state = advanced(state);
             let j = ((state >> 32) * (i + 1)) >> 32;
             entries.swap(i as usize, j as usize);
         }

@@ -19,6 +19,12 @@ use layout::{Layout, Shape};
 use std::slice::{from_raw_parts, from_raw_parts_mut};
 
 #[repr(C)]
+pub struct Entries {
+    refusal: u64,
+    entries: [u8; 64],
+}
+
+#[repr(C)]
 pub struct Mapped {
     refusal: u64,
     group: u64,
@@ -328,6 +334,11 @@ pub unsafe extern "C" fn twin_listing(
 ) -> Page {
     let out = from_raw_parts_mut(out, out_length);
     catalogue::listing(from_raw_parts(slots, slot_count), n, from, out)
+}
+
+#[no_mangle]
+pub extern "C" fn twin_tile_permutation(y: Layout, tile: u64) -> Entries {
+    Entries { refusal: 0, entries: Shape::of(y).permutation(tile) }
 }
 
 #[no_mangle]

@@ -5,6 +5,12 @@
 //!    `splicebell.pc`.
 //! 3. In its repository: the library that `scripts/archive` makes there, for the processor that cargo builds for. An
 //!    installed one, which may be older, is taken only where the kit is missing too, and a warning says so.
+//!
+//! An installed library of another interface is never linked: its structs have other sizes, and the linker does not see it.
+#[path = "src/interface.rs"]
+mod interface;
+
+use interface::INTERFACE;
 use std::path::{Path, PathBuf};
 use std::process::Command;
 use std::time::SystemTime;
@@ -17,7 +23,9 @@ const SEARCHED: &str = "PKG_CONFIG_PATH";
 const NAMES: [&str; 2] = ["splicebell", "abi"];
 
 fn main() {
-    println!("cargo:rerun-if-changed=build.rs");
+    for source in ["build.rs", "src/interface.rs"] {
+        println!("cargo:rerun-if-changed={source}");
+    }
     for variable in [ARCHIVE_DIR, INSTALLED, SEARCHED] {
         println!("cargo:rerun-if-env-changed={variable}");
     }
@@ -53,28 +61,45 @@ fn repository_root() -> PathBuf {
     root.canonicalize().unwrap_or(root)
 }
 
-/// The folder of the installed library, as pkg-config says it; where there is no such command, as the file does.
+/// The folder of the installed library.
 fn installed() -> Option<PathBuf> {
-    match Command::new("pkg-config").args(["--variable=libdir", "splicebell"]).output() {
-        Ok(run) if run.status.success() => {
-            Some(String::from_utf8(run.stdout).expect("a path in UTF-8").trim().into())
-        }
-        Ok(_) => None,
-        Err(_) => {
+    let (version, folder) = described()?;
+    if version.split('.').next() != Some(&INTERFACE.to_string()) {
+        stop(&format!(
+            "version {version} of the library is installed: these bindings are written for interface {INTERFACE}, \
+             the first number of a version"
+        ));
+    }
+    Some(folder.into())
+}
+
+/// Version and folder of the installed library, as pkg-config says them; where there is no such command, as the file
+/// does.
+fn described() -> Option<(String, String)> {
+    match (said("--modversion"), said("--variable=libdir")) {
+        (Ok(version), Ok(folder)) => Some((version?, folder?)),
+        _ => {
             let named = std::env::var_os(SEARCHED).unwrap_or_default();
             let usual = ["/usr/local/lib/pkgconfig", "/usr/lib/pkgconfig"].map(PathBuf::from);
             std::env::split_paths(&named)
                 .chain(usual)
-                .find_map(|f| libdir(&f.join("splicebell.pc")))
+                .find_map(|f| described_in(&f.join("splicebell.pc")))
         }
     }
 }
 
-fn libdir(file: &Path) -> Option<PathBuf> {
+/// What pkg-config says; nothing where it finds no such library.
+fn said(word: &str) -> std::io::Result<Option<String>> {
+    let run = Command::new("pkg-config").args([word, "splicebell"]).output()?;
+    let text = String::from_utf8(run.stdout).expect("a path in UTF-8");
+    Ok(run.status.success().then(|| text.trim().into()))
+}
+
+fn described_in(file: &Path) -> Option<(String, String)> {
     let text = std::fs::read_to_string(file).ok()?;
-    let value =
-        |name: &str| text.lines().find_map(|line| line.strip_prefix(name)?.strip_prefix('='));
-    Some(value("libdir")?.replace("${prefix}", value("prefix")?).into())
+    let value = |name: &str| text.lines().find_map(|line| line.strip_prefix(name));
+    let folder = value("libdir=")?.replace("${prefix}", value("prefix=")?);
+    Some((value("Version: ")?.into(), folder))
 }
 
 /// The folder of the archive. To make it takes long also where nothing has changed, so it is not made then.
@@ -89,15 +114,16 @@ fn built_archive(root: &Path) -> PathBuf {
     if built.is_some() && built > sources.iter().filter_map(|source| newest(source)).max() {
         return folder;
     }
-    match (Command::new("rt").arg("version").output(), installed()) {
-        (Err(_), Some(other)) => {
+    let kit_is_missing = Command::new("rt").arg("version").output().is_err();
+    match kit_is_missing.then(installed).flatten() {
+        Some(other) => {
             println!(
                 "cargo:warning=splicebell: the Rattle kit is not here: the library in {} is linked",
                 other.display()
             );
             other
         }
-        _ => {
+        None => {
             make_archive(root, &code);
             folder
         }

@@ -6,8 +6,12 @@
 #include <stdlib.h>
 #include <string.h>
 
+#if SPLICEBELL_INTERFACE != 4
+#error "written for another header: docs/ABI.md, The interface's number, says what has changed"
+#endif
+
 /* Two data units, one parity unit and one spare a group, over five drives; units of eight bytes. */
-static const splicebell_layout row = {.n = 2, .k = 1, .p = 5, .u = 8, .t = 1, .cookie = 7};
+static const splicebell_layout row = {.n = 2, .k = 1, .p = 5, .u = 8, .t = 1, .cookie = 7, .edition = 1};
 static const char first[] = "Mrs Abel: a red suitcase";
 static const char second[] = "Mr Zorn: two skis";
 static const char weight[] = "7.4 kg";

@@ -10,7 +10,7 @@ enum { THREADS = 8 };
 
 static void *found(void *unused)
 {
-    splicebell_layout y = {.n = 1, .k = 1, .p = 3, .u = 2, .t = 1, .cookie = 0};
+    splicebell_layout y = {.n = 1, .k = 1, .p = 3, .u = 2, .t = 1, .cookie = 0, .edition = 1};
     (void)unused;
     return splicebell_measure(y).numbers.capacity == 2 ? (void *)splicebell_processor() : NULL;
 }

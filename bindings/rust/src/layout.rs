@@ -2,12 +2,12 @@ use crate::calls;
 use crate::raw;
 use crate::refusal::{answered, text_answered, Result, TextRefusal};
 
-/// The six numbers of a layout. Any values may stand here; a call refuses those outside the bounds.
+/// The seven numbers of a layout. Any values may stand here; a call refuses those outside the bounds.
 ///
 /// ```
 /// use splicebell::Layout;
 ///
-/// let layout = Layout { n: 4, k: 2, p: 20, u: 512, t: 3, cookie: 0 };
+/// let layout = Layout { n: 4, k: 2, p: 20, u: 512, t: 3, cookie: 0, edition: 1 };
 /// let numbers = layout.measure()?;
 /// assert_eq!((numbers.w, numbers.b, numbers.l, numbers.c), (8, 40, 2, 5));
 /// assert_eq!(numbers.capacity, 3 * 5 * 4 * 512);
@@ -27,6 +27,10 @@ pub struct Layout {
     pub t: u64,
     /// Where the permutations of the tiles start; any number.
     pub cookie: u64,
+    /// The edition of the permutations: 1, document 01's, those of every row that was installed while there was no
+    /// other; 2, in which the generator is advanced four times more before the exchanges. An image does not tell
+    /// its edition.
+    pub edition: u64,
 }
 
 /// What follows from a layout.
@@ -116,10 +120,19 @@ impl Layout {
     /// The permutation of a tile: entry t is the target of column t, those from P on hold their own index.
     ///
     /// ```
-    /// let layout = splicebell::Layout { n: 1, k: 0, p: 4, u: 1, t: 1, cookie: 0 };
-    /// assert_eq!(layout.permutation(0)?[..4], [2, 1, 3, 0]);
-    /// assert_eq!(layout.inverse(0)?[..4], [3, 1, 0, 2]);
-    /// # Ok::<(), splicebell::Refusal>(())
+    /// use splicebell::{Layout, Refusal};
+    ///
+    /// let first = Layout { n: 1, k: 0, p: 4, u: 1, t: 1, cookie: 0, edition: 1 };
+    /// assert_eq!(first.permutation(0)?[..4], [2, 1, 3, 0]);
+    /// assert_eq!(first.inverse(0)?[..4], [3, 1, 0, 2]);
+    ///
+    /// let second = Layout { edition: 2, ..first };
+    /// assert_eq!(second.permutation(0)?[..4], [2, 0, 3, 1]);
+    /// assert_eq!(second.inverse(0)?[..4], [1, 3, 0, 2]);
+    ///
+    /// let third = Layout { edition: 3, ..first };
+    /// assert_eq!(third.permutation(0), Err(Refusal::BadLayout));
+    /// # Ok::<(), Refusal>(())
     /// ```
     pub fn permutation(&self, tile: u64) -> Result<[u8; 64]> {
         let answer = calls::tile_permutation(self.to_raw(), tile);
@@ -149,7 +162,7 @@ impl Layout {
     /// Where a byte of the file lies.
     ///
     /// ```
-    /// let layout = splicebell::Layout { n: 1, k: 1, p: 4, u: 4, t: 1, cookie: 0 };
+    /// let layout = splicebell::Layout { n: 1, k: 1, p: 4, u: 4, t: 1, cookie: 0, edition: 1 };
     /// let mapped = layout.map(9)?;
     /// assert_eq!((mapped.group, mapped.unit, mapped.byte, mapped.image), (2, 0, 1, 41));
     /// # Ok::<(), splicebell::Refusal>(())
@@ -163,7 +176,7 @@ impl Layout {
     /// What a byte of the image holds: what undoes [`Layout::map`].
     ///
     /// ```
-    /// let layout = splicebell::Layout { n: 1, k: 1, p: 4, u: 4, t: 1, cookie: 0 };
+    /// let layout = splicebell::Layout { n: 1, k: 1, p: 4, u: 4, t: 1, cookie: 0, edition: 1 };
     /// let data = layout.trace(41)?;
     /// assert_eq!((data.group, data.unit, data.byte, data.offset), (2, 0, 1, Some(9)));
     /// let parity = layout.trace(14)?;
@@ -190,7 +203,7 @@ impl Layout {
     /// A walk over one target: every frame with the unit that lies there, frames rising.
     ///
     /// ```
-    /// let layout = splicebell::Layout { n: 1, k: 1, p: 4, u: 4, t: 1, cookie: 0 };
+    /// let layout = splicebell::Layout { n: 1, k: 1, p: 4, u: 4, t: 1, cookie: 0, edition: 1 };
     /// let held = layout.walk(2).map(|found| found.map(|(frame, at)| (frame, at.group, at.unit)));
     /// let held: Vec<_> = held.collect::<Result<_, _>>()?;
     /// assert_eq!(held, [(0, 0, 0), (1, 1, 1), (2, 2, 2)]);
@@ -203,7 +216,7 @@ impl Layout {
     /// Sets the K parity units of a group's (N+K)·U bytes from its N data units.
     ///
     /// ```
-    /// let layout = splicebell::Layout { n: 2, k: 2, p: 6, u: 1, t: 1, cookie: 0 };
+    /// let layout = splicebell::Layout { n: 2, k: 2, p: 6, u: 1, t: 1, cookie: 0, edition: 1 };
     /// let mut group = [0, 2, 0, 0];
     /// layout.encode(&mut group)?;
     /// assert_eq!(group, [0, 2, 2, 205]);
@@ -235,7 +248,7 @@ impl Layout {
     /// ```
     /// use splicebell::{Layout, Pool};
     ///
-    /// let layout = Layout { n: 1, k: 1, p: 3, u: 2, t: 1, cookie: 0 };
+    /// let layout = Layout { n: 1, k: 1, p: 3, u: 2, t: 1, cookie: 0, edition: 1 };
     /// let mailed = b"00 000000 0000\n01 000000 4142\n02 000000 4142\n";
     /// let mut image = [0; 6];
     /// layout.read_text(mailed, &mut image)?;
@@ -254,15 +267,15 @@ impl Layout {
         text_answered(refusal, line)
     }
 
-    /// The layout that the first line of a trace tells, and the bytes of the image that the trace is replayed on,
-    /// at most 32,768. The line is lent with its newline; [`Pool::replay_line`](crate::Pool::replay_line) plays
-    /// those after it.
+    /// The layout that the first line of a trace tells, of edition 1, and the bytes of the image that the trace is
+    /// replayed on, at most 32,768. The line is lent with its newline;
+    /// [`Pool::replay_line`](crate::Pool::replay_line) plays those after it.
     ///
     /// ```
     /// use splicebell::{Layout, Refusal};
     ///
     /// let (layout, image) = Layout::from_first_line(b"01 01 03 0002 000001 000000000000002a\n")?;
-    /// assert_eq!(layout, Layout { n: 1, k: 1, p: 3, u: 2, t: 1, cookie: 42 });
+    /// assert_eq!(layout, Layout { n: 1, k: 1, p: 3, u: 2, t: 1, cookie: 42, edition: 1 });
     /// assert_eq!(image, 6);
     ///
     /// let refused = |line: &[u8]| Layout::from_first_line(line).unwrap_err();
@@ -280,13 +293,13 @@ impl Layout {
     }
 
     pub(crate) fn to_raw(self) -> raw::splicebell_layout {
-        let Layout { n, k, p, u, t, cookie } = self;
-        raw::splicebell_layout { n, k, p, u, t, cookie }
+        let Layout { n, k, p, u, t, cookie, edition } = self;
+        raw::splicebell_layout { n, k, p, u, t, cookie, edition }
     }
 
     fn from_raw(layout: raw::splicebell_layout) -> Layout {
-        let raw::splicebell_layout { n, k, p, u, t, cookie } = layout;
-        Layout { n, k, p, u, t, cookie }
+        let raw::splicebell_layout { n, k, p, u, t, cookie, edition } = layout;
+        Layout { n, k, p, u, t, cookie, edition }
     }
 }
 

@@ -8,7 +8,7 @@
 //! ```
 //! use splicebell::{Layout, Pool};
 //!
-//! let layout = Layout { n: 2, k: 1, p: 5, u: 8, t: 1, cookie: 7 };
+//! let layout = Layout { n: 2, k: 1, p: 5, u: 8, t: 1, cookie: 7, edition: 1 };
 //! let mut image = vec![0; layout.measure()?.image as usize];
 //! let mut pool = Pool::new(layout, &mut image);
 //! pool.write(3, b"a photograph")?;
@@ -23,6 +23,7 @@
 #[allow(unsafe_code)]
 mod calls;
 mod catalogue;
+mod interface;
 mod layout;
 mod pool;
 #[doc(hidden)]
@@ -30,6 +31,7 @@ pub mod raw;
 mod refusal;
 
 pub use catalogue::{Catalogue, Entry, Key, Page};
+pub use interface::INTERFACE;
 pub use layout::{Cursor, Layout, Mapped, Numbers, Place, Traced, Unit, Walk};
 pub use pool::{Panel, Pool, Range, Record};
 pub use refusal::{ListRefusal, Refusal, Result, TextRefusal};

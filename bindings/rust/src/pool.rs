@@ -59,7 +59,7 @@ pub struct Range {
 /// ```
 /// use splicebell::{Layout, Pool, Refusal};
 ///
-/// let layout = Layout { n: 1, k: 1, p: 3, u: 2, t: 1, cookie: 0 };
+/// let layout = Layout { n: 1, k: 1, p: 3, u: 2, t: 1, cookie: 0, edition: 1 };
 /// let mut image = [0; 6];
 /// let mut pool = Pool::new(layout, &mut image);
 /// pool.write(0, &[0x41, 0x42])?;
@@ -113,7 +113,8 @@ impl<'a> Pool<'a> {
     /// use splicebell::{Layout, Pool, Refusal};
     ///
     /// let mut image = [7; 6];
-    /// let pool = Pool::new(Layout { n: 1, k: 1, p: 3, u: 2, t: 1, cookie: 0 }, &mut image);
+    /// let layout = Layout { n: 1, k: 1, p: 3, u: 2, t: 1, cookie: 0, edition: 1 };
+    /// let pool = Pool::new(layout, &mut image);
     /// let mut too_long = [9; 3];
     /// assert_eq!(pool.read(0, &mut too_long), Err(Refusal::Outside));
     /// assert_eq!(too_long, [0; 3]);
@@ -136,7 +137,8 @@ impl<'a> Pool<'a> {
     /// use splicebell::{Layout, Pool, Range, Refusal};
     ///
     /// let mut image = [0; 48];
-    /// let mut pool = Pool::new(Layout { n: 1, k: 1, p: 4, u: 4, t: 1, cookie: 0 }, &mut image);
+    /// let layout = Layout { n: 1, k: 1, p: 4, u: 4, t: 1, cookie: 0, edition: 1 };
+    /// let mut pool = Pool::new(layout, &mut image);
     /// let ranges = [Range { offset: 0, length: 9 }, Range { offset: 2, length: 3 }];
     /// pool.write_list(&ranges, b"a --- bagred")?;
     /// let mut seen = [0; 9];
@@ -162,7 +164,7 @@ impl<'a> Pool<'a> {
     /// ```
     /// use splicebell::{Layout, Pool, Refusal};
     ///
-    /// let layout = Layout { n: 2, k: 1, p: 5, u: 8, t: 1, cookie: 7 };
+    /// let layout = Layout { n: 2, k: 1, p: 5, u: 8, t: 1, cookie: 7, edition: 1 };
     /// let mut image = vec![0; layout.measure()?.image as usize];
     /// let mut pool = Pool::new(layout, &mut image);
     /// let (photograph, weight, tag) = (b"a brown bag with one strap", b"23.4 kg", b"LH 0042");
@@ -208,7 +210,7 @@ impl<'a> Pool<'a> {
     /// ```
     /// use splicebell::{Layout, Pool, Refusal};
     ///
-    /// let layout = Layout { n: 1, k: 2, p: 5, u: 4, t: 1, cookie: 0 };
+    /// let layout = Layout { n: 1, k: 2, p: 5, u: 4, t: 1, cookie: 0, edition: 1 };
     /// let mut image = [0; 20];
     /// let mut pool = Pool::new(layout, &mut image);
     /// pool.fail(layout.place(0, 0)?.target)?;
@@ -233,7 +235,7 @@ impl<'a> Pool<'a> {
     /// ```
     /// use splicebell::{Layout, Pool, Refusal};
     ///
-    /// let layout = Layout { n: 1, k: 2, p: 5, u: 4, t: 1, cookie: 0 };
+    /// let layout = Layout { n: 1, k: 2, p: 5, u: 4, t: 1, cookie: 0, edition: 1 };
     /// let mut image = [0; 20];
     /// let mut pool = Pool::new(layout, &mut image);
     /// pool.write(0, b"bags")?;
@@ -261,7 +263,7 @@ impl<'a> Pool<'a> {
     /// ```
     /// use splicebell::{Layout, Pool, Refusal};
     ///
-    /// let layout = Layout { n: 1, k: 2, p: 5, u: 4, t: 1, cookie: 0 };
+    /// let layout = Layout { n: 1, k: 2, p: 5, u: 4, t: 1, cookie: 0, edition: 1 };
     /// let mut image = [0; 20];
     /// let mut pool = Pool::new(layout, &mut image);
     /// pool.fail(layout.place(0, 0)?.target)?;
@@ -288,7 +290,7 @@ impl<'a> Pool<'a> {
     /// ```
     /// use splicebell::{Layout, Pool, Refusal};
     ///
-    /// let layout = Layout { n: 1, k: 2, p: 5, u: 4, t: 1, cookie: 0 };
+    /// let layout = Layout { n: 1, k: 2, p: 5, u: 4, t: 1, cookie: 0, edition: 1 };
     /// let mut image = [0; 20];
     /// let mut pool = Pool::new(layout, &mut image);
     /// for content in [0, 1] {
@@ -329,7 +331,8 @@ impl<'a> Pool<'a> {
     /// use splicebell::{Layout, Panel, Pool};
     ///
     /// let mut image = [0; 48];
-    /// let mut pool = Pool::new(Layout { n: 1, k: 1, p: 4, u: 4, t: 1, cookie: 0 }, &mut image);
+    /// let layout = Layout { n: 1, k: 1, p: 4, u: 4, t: 1, cookie: 0, edition: 1 };
+    /// let mut pool = Pool::new(layout, &mut image);
     /// pool.fail(3)?;
     /// assert_eq!(pool.panel()?, Panel { waiting: 2, failed: 1, repaired: 0 });
     /// pool.repair()?;
@@ -349,7 +352,7 @@ impl<'a> Pool<'a> {
     /// ```
     /// use splicebell::{Layout, Pool, Record, Refusal};
     ///
-    /// let layout = Layout { n: 1, k: 1, p: 4, u: 4, t: 1, cookie: 0 };
+    /// let layout = Layout { n: 1, k: 1, p: 4, u: 4, t: 1, cookie: 0, edition: 1 };
     /// let mut image = [0; 48];
     /// let mut pool = Pool::new(layout, &mut image);
     /// pool.fail(3)?;
@@ -371,7 +374,8 @@ impl<'a> Pool<'a> {
     /// use splicebell::{Layout, Pool};
     ///
     /// let mut image = [0; 6];
-    /// let mut pool = Pool::new(Layout { n: 1, k: 1, p: 3, u: 2, t: 1, cookie: 0 }, &mut image);
+    /// let layout = Layout { n: 1, k: 1, p: 3, u: 2, t: 1, cookie: 0, edition: 1 };
+    /// let mut pool = Pool::new(layout, &mut image);
     /// pool.write(0, &[5, 6])?;
     /// let mut scratch = [0; 2];
     /// assert_eq!(pool.look(0, 0, &mut scratch)?, [5, 6]);
@@ -395,7 +399,8 @@ impl<'a> Pool<'a> {
     /// use splicebell::{Layout, Pool};
     ///
     /// let mut image = [0; 6];
-    /// let mut pool = Pool::new(Layout { n: 1, k: 1, p: 3, u: 2, t: 1, cookie: 0 }, &mut image);
+    /// let layout = Layout { n: 1, k: 1, p: 3, u: 2, t: 1, cookie: 0, edition: 1 };
+    /// let mut pool = Pool::new(layout, &mut image);
     /// pool.write(0, &[0x41, 0x42])?;
     /// let mut line = [0; 15];
     /// pool.hex_line(1, 0, &mut line)?;
@@ -412,7 +417,7 @@ impl<'a> Pool<'a> {
     /// ```
     /// use splicebell::{Layout, Pool};
     ///
-    /// let layout = Layout { n: 1, k: 1, p: 3, u: 2, t: 1, cookie: 0 };
+    /// let layout = Layout { n: 1, k: 1, p: 3, u: 2, t: 1, cookie: 0, edition: 1 };
     /// let mut image = [0; 6];
     /// let mut pool = Pool::new(layout, &mut image);
     /// pool.write(0, &[0x41, 0x42])?;

@@ -13,6 +13,7 @@ pub struct splicebell_layout {
     pub u: u64,
     pub t: u64,
     pub cookie: u64,
+    pub edition: u64,
 }
 
 #[repr(C)]

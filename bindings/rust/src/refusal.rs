@@ -6,7 +6,7 @@ use std::fmt;
 /// ```
 /// use splicebell::{Layout, Refusal};
 ///
-/// let no_targets = Layout { n: 1, k: 0, p: 0, u: 1, t: 1, cookie: 0 };
+/// let no_targets = Layout { n: 1, k: 0, p: 0, u: 1, t: 1, cookie: 0, edition: 1 };
 /// let refusal = no_targets.measure().unwrap_err();
 /// assert_eq!(refusal, Refusal::BadLayout);
 /// assert_eq!(refusal.number(), 1);
@@ -126,7 +126,7 @@ impl Error for Refusal {}
 /// ```
 /// use splicebell::{Layout, Refusal};
 ///
-/// let layout = Layout { n: 1, k: 1, p: 3, u: 2, t: 1, cookie: 0 };
+/// let layout = Layout { n: 1, k: 1, p: 3, u: 2, t: 1, cookie: 0, edition: 1 };
 /// let upper_case = b"00 000000 0000\n01 000000 414A\n02 000000 414a\n";
 /// let why = layout.read_text(upper_case, &mut [0; 6]).unwrap_err();
 /// assert_eq!((why.refusal, why.line), (Refusal::WrongLine, Some(2)));
@@ -174,7 +174,8 @@ pub(crate) fn text_answered(number: u64, line: u64) -> std::result::Result<(), T
 /// use splicebell::{Layout, Pool, Refusal};
 ///
 /// let mut image = [0; 48];
-/// let mut pool = Pool::new(Layout { n: 1, k: 1, p: 4, u: 4, t: 1, cookie: 0 }, &mut image);
+/// let layout = Layout { n: 1, k: 1, p: 4, u: 4, t: 1, cookie: 0, edition: 1 };
+/// let mut pool = Pool::new(layout, &mut image);
 /// let why = pool.write_pieces(&[(0, b"a red bag"), (14, b"23.4 kg")]).unwrap_err();
 /// assert_eq!((why.refusal, why.range), (Refusal::Outside, Some(2)));
 /// let why = pool.write_pieces(&[(0, &b"again"[..]); 65]).unwrap_err();

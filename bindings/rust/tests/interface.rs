@@ -6,7 +6,7 @@ use splicebell::{
 };
 
 /// Two data, two parity and two spare units a group over seven targets.
-const LAYOUT: Layout = Layout { n: 2, k: 2, p: 7, u: 3, t: 2, cookie: 11 };
+const LAYOUT: Layout = Layout { n: 2, k: 2, p: 7, u: 3, t: 2, cookie: 11, edition: 1 };
 
 fn blank_image() -> Vec<u8> {
     vec![0; LAYOUT.measure().expect("the layout is good").image as usize]
@@ -840,7 +840,7 @@ fn a_bad_catalogue_is_refused_and_kept() {
     assert_eq!((catalogue.count(), catalogue.slots()), (2, &falling[..]));
 }
 
-const LARGEST: Layout = Layout { n: 16, k: 3, p: 22, u: 4096, t: 1, cookie: 5 };
+const LARGEST: Layout = Layout { n: 16, k: 3, p: 22, u: 4096, t: 1, cookie: 5, edition: 1 };
 
 fn in_a_thread_of(kib: usize, calls: fn() -> Result<(), Refusal>) {
     let small = std::thread::Builder::new().stack_size(kib * 1024);

@@ -2,7 +2,7 @@
 use splicebell::{Layout, ListRefusal, Panel, Pool, Result};
 
 /// Two data units, one parity unit and one spare a group, over five drives; units of eight bytes.
-const ROW: Layout = Layout { n: 2, k: 1, p: 5, u: 8, t: 1, cookie: 7 };
+const ROW: Layout = Layout { n: 2, k: 1, p: 5, u: 8, t: 1, cookie: 7, edition: 1 };
 const FIRST: &str = "Mrs Abel: a red suitcase";
 const SECOND: &str = "Mr Zorn: two skis";
 const WEIGHT: &str = "7.4 kg";

@@ -1,9 +1,13 @@
 //! Where a call is made on both sides: buffers are lent, answers and bytes compared, differences reported.
 
 use crate::draws::Draws;
+use crate::edition_kinds::Given;
+use crate::edition_rules;
 use crate::lent::{Arena, Lent};
 use crate::spoil::Spoil;
 use crate::tally::{Call, Tally};
+use oracle::layout::Layout;
+use splicebell::raw::splicebell_layout;
 use std::fmt::Debug;
 use std::sync::atomic::{AtomicU64, Ordering::Relaxed};
 
@@ -49,7 +53,7 @@ impl Bench {
         if self.tells {
             eprintln!("{}: {}", call.name(), inputs());
         }
-        Trial { call, inputs, differences: Vec::new(), spoil: self.spoil }
+        Trial { call, inputs, layout: None, differences: Vec::new(), spoil: self.spoil }
     }
 
     /// Lends a copy of `contents`, to be read, to the call that was begun.
@@ -70,6 +74,9 @@ impl Bench {
     /// Ends the call: counts it by the model's refusal, or reports what differed and ends the program.
     pub fn end(&mut self, trial: Trial, refusal: u64) {
         self.tally.add(trial.call, refusal);
+        if let Some(layout) = &trial.layout {
+            self.tally.editions.add(&Given { call: trial.call.name(), layout, refusal });
+        }
         if !trial.differences.is_empty() {
             eprintln!("DIFFERENCE in {}", trial.call.name());
             tell_where();
@@ -84,11 +91,18 @@ impl Bench {
 pub struct Trial<'a> {
     call: Call,
     inputs: &'a dyn Fn() -> String,
+    layout: Option<Layout>,
     differences: Vec<String>,
     spoil: Option<Spoil>,
 }
 
 impl Trial<'_> {
+    /// The layout as the library is given it.
+    pub fn layout(&mut self, y: &Layout) -> splicebell_layout {
+        self.layout = Some(*y);
+        edition_rules::lent(self.spoil, self.call, y)
+    }
+
     /// Compares one number of the answer.
     pub fn number(&mut self, name: &str, mut answered: u64, expected: u64) {
         if self.spoil == Some(Spoil::Answer) {

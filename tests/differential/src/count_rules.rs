@@ -2,14 +2,15 @@
 //! library with such a fault is made of the right one: the record that it is given, or what it answers, is another.
 
 use crate::bench::Bench;
-use crate::layouts::{is_light, lent};
+use crate::layouts::is_light;
 use crate::lent::Lent;
 use crate::pools::Pool;
 use crate::records;
 use crate::spoil::Spoil;
 use oracle::pool_count::{self, contents_on, missing_units, most_missing};
 use splicebell::raw::{
-    self, splicebell_counts, splicebell_failed, splicebell_record, splicebell_repaired,
+    self, splicebell_counts, splicebell_failed, splicebell_layout, splicebell_record,
+    splicebell_repaired,
 };
 
 /// What a library with a fault would do.
@@ -87,8 +88,14 @@ impl Library {
         record
     }
 
-    pub fn fail(self, pool: &Pool, image: &Lent<u8>, target: u64) -> splicebell_failed {
-        let (y, r) = (lent(&pool.layout), self.record(pool));
+    pub fn fail(
+        self,
+        y: splicebell_layout,
+        pool: &Pool,
+        image: &Lent<u8>,
+        target: u64,
+    ) -> splicebell_failed {
+        let r = self.record(pool);
         // SAFETY: the pointer leads to that many bytes.
         let mut answer =
             unsafe { raw::splicebell_fail(y, r, image.pointer(), image.len(), target) };
@@ -99,8 +106,13 @@ impl Library {
         }
     }
 
-    pub fn repair(self, pool: &Pool, image: &Lent<u8>) -> splicebell_repaired {
-        let (y, r) = (lent(&pool.layout), self.record(pool));
+    pub fn repair(
+        self,
+        y: splicebell_layout,
+        pool: &Pool,
+        image: &Lent<u8>,
+    ) -> splicebell_repaired {
+        let r = self.record(pool);
         // SAFETY: the pointer leads to that many bytes.
         let mut answer = unsafe { raw::splicebell_repair(y, r, image.pointer(), image.len()) };
         answer.record = self.handed_back(pool, answer.record);
@@ -113,8 +125,8 @@ impl Library {
         answer
     }
 
-    pub fn panel(self, pool: &Pool, image: &Lent<u8>) -> splicebell_counts {
-        let (y, r) = (lent(&pool.layout), self.record(pool));
+    pub fn panel(self, y: splicebell_layout, pool: &Pool, image: &Lent<u8>) -> splicebell_counts {
+        let r = self.record(pool);
         // SAFETY: the pointer leads to that many bytes.
         let mut answer = unsafe { raw::splicebell_panel(y, r, image.pointer(), image.len()) };
         if answer.refusal == 0 && self.is(CountRule::PanelCounts) && is_light(&pool.layout) {
@@ -123,8 +135,8 @@ impl Library {
         answer
     }
 
-    pub fn audit(self, pool: &Pool, image: &Lent<u8>) -> u64 {
-        let (y, r) = (lent(&pool.layout), self.record(pool));
+    pub fn audit(self, y: splicebell_layout, pool: &Pool, image: &Lent<u8>) -> u64 {
+        let r = self.record(pool);
         // SAFETY: the pointer leads to that many bytes.
         let answer = unsafe { raw::splicebell_audit(y, r, image.pointer(), image.len()) };
         match self.0 {

@@ -86,7 +86,7 @@ pub fn panel(bench: &mut Bench, pool: &Pool) {
     let inputs = || pool.told();
     let mut trial = bench.begin(Call::Panel, &inputs);
     let image = bench.lend(&pool.image);
-    let answer = Library::of(bench).panel(pool, &image);
+    let answer = Library::of(bench).panel(trial.layout(&pool.layout), pool, &image);
     let (refusal, counts) = pool_count::panel(&pool.layout, &pool.record, &pool.image);
     trial.number("refusal", answer.refusal, refusal);
     trial.number("waiting", answer.waiting, counts.waiting);
@@ -106,7 +106,7 @@ pub fn audit(bench: &mut Bench, pool: &Pool) {
     let inputs = || pool.told();
     let mut trial = bench.begin(Call::Audit, &inputs);
     let image = bench.lend(&pool.image);
-    let answer = Library::of(bench).audit(pool, &image);
+    let answer = Library::of(bench).audit(trial.layout(&pool.layout), pool, &image);
     let refusal = pool_count::audit(&pool.layout, &pool.record, &pool.image);
     trial.number("refusal", answer, refusal);
     trial.buffer("image", &image, &pool.image);

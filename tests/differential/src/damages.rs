@@ -236,12 +236,13 @@ fn empty(_: &mut Draws, _: &Layout, text: &mut Vec<u8>) {
 /// A right text, but of a layout that differs in one number, or of any.
 fn another_layout(draws: &mut Draws, y: &Layout, text: &mut Vec<u8>) {
     let near = |number: u64, draws: &mut Draws| draws.pick(&[number + 1, number.max(2) - 1]);
-    let other = match draws.below(6) {
+    let other = match draws.below(7) {
         0 => Layout { u: near(y.u, draws), ..*y },
         1 => Layout { t: near(y.t, draws), ..*y },
         2 => Layout { p: near(y.p, draws), ..*y },
         3 => Layout { n: near(y.n, draws), ..*y },
         4 => Layout { cookie: draws.word(), ..*y },
+        5 => Layout { edition: layouts::edition(draws), ..*y },
         _ => layouts::fitting(draws, OTHER_IMAGE),
     };
     let image = other.derived().image;

@@ -2,7 +2,7 @@
 
 use crate::bench::{hex, Bench};
 use crate::draws::Draws;
-use crate::layouts::{any, lent, perhaps_damaged, told};
+use crate::layouts::{any, perhaps_damaged, told};
 use crate::tally::Call;
 use oracle::layout::Layout;
 use splicebell::raw;
@@ -67,7 +67,7 @@ fn encode(bench: &mut Bench, y: &Layout, buffer: &mut [u8]) {
     let mut trial = bench.begin(Call::Encode, &inputs);
     let buf = bench.lend_mut(buffer);
     // SAFETY: the pointer leads to that many bytes.
-    let answer = unsafe { raw::splicebell_encode(lent(y), buf.pointer(), buf.len()) };
+    let answer = unsafe { raw::splicebell_encode(trial.layout(y), buf.pointer(), buf.len()) };
     let refusal = oracle::group::encode(y, buffer);
     trial.number("refusal", answer, refusal);
     trial.buffer("buf", &buf, buffer);
@@ -80,10 +80,9 @@ fn rebuild(bench: &mut Bench, y: &Layout, missing: &[u64], buffer: &mut [u8]) {
     let inputs = || format!("{} missing {missing:?} buf {}", told(y), hex(&before));
     let mut trial = bench.begin(Call::Rebuild, &inputs);
     let (units, buf) = (bench.lend(missing), bench.lend_mut(buffer));
+    let (lent, first, count) = (trial.layout(y), units.pointer(), units.len());
     // SAFETY: both pointers lead to that many elements, and the buffers lie apart.
-    let answer = unsafe {
-        raw::splicebell_rebuild(lent(y), units.pointer(), units.len(), buf.pointer(), buf.len())
-    };
+    let answer = unsafe { raw::splicebell_rebuild(lent, first, count, buf.pointer(), buf.len()) };
     let refusal = oracle::group::rebuild(y, buffer, missing);
     trial.number("refusal", answer, refusal);
     trial.buffer("missing", &units, missing);

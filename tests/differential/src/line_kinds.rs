@@ -2,9 +2,12 @@
 
 use crate::count_kinds::{line_of, Counted};
 use crate::pools::Pool;
+use crate::replays::EDITION_FIELDS;
 use oracle::layout::{layout, Layout};
 use oracle::pool::Record;
-use oracle::replay::{line_of_layout, play_line, First, Played, LARGEST_IMAGE, LONGEST_LINE};
+use oracle::replay::{
+    first_line, line_of_layout, play_line, First, Played, LARGEST_IMAGE, LONGEST_LINE,
+};
 
 /// A line that was lent to be played, and what the model answered.
 pub struct Line<'a> {
@@ -78,10 +81,11 @@ pub const LINE_KINDS: [(&str, Test); 25] = [
     ("5, and a bad layout", |line| line.played.refusal == 5 && line.pool.layout.refusal() != 0),
 ];
 
-pub const FIRST_KINDS: [(&str, FirstTest); 5] = [
+pub const FIRST_KINDS: [(&str, FirstTest); 6] = [
     ("an image of 32,768 bytes", |line| line.first.image == LARGEST_IMAGE),
     ("a larger image", |line| line.is_whole() && line.layout.derived().image > LARGEST_IMAGE),
     ("malformed", |line| line.first.refusal == 13 && !line.is_whole()),
+    ("an edition named too", |line| line.first.refusal == 13 && line.names_an_edition()),
     ("no newline, else right", |line| {
         [line.line, b"\n"].concat() == line_of_layout(line.layout).as_bytes()
     }),
@@ -162,6 +166,13 @@ impl Line<'_> {
 }
 
 impl FirstLine<'_> {
+    /// Whether the line would be accepted but for a seventh number.
+    fn names_an_edition(&self) -> bool {
+        let right = line_of_layout(self.layout);
+        let is_behind = |field: &&[u8]| [right.trim_end().as_bytes(), field].concat() == self.line;
+        first_line(right.as_bytes()).refusal == 0 && EDITION_FIELDS.iter().any(is_behind)
+    }
+
     /// Whether the line was not damaged.
     fn is_whole(&self) -> bool {
         self.line == line_of_layout(self.layout).as_bytes()

@@ -4,7 +4,6 @@ use crate::bench::{hex, Bench};
 use crate::count_kinds::Counted;
 use crate::count_rules::Library;
 use crate::draws::Draws;
-use crate::layouts::lent;
 use crate::list_kinds::{Listed, Range};
 use crate::pool_calls::write_at;
 use crate::pools::Pool;
@@ -141,7 +140,7 @@ fn at_once(bench: &mut Bench, pool: &Pool, ranges: &[Range], stored: &[u8]) -> (
     let mut trial = bench.begin(Call::WriteList, &inputs);
     let (image, lent_ranges, bytes) =
         (bench.lend_mut(&pool.image), bench.lend(&list), bench.lend(stored));
-    let (y, r) = (lent(&pool.layout), Library::of(bench).record(pool));
+    let (y, r) = (trial.layout(&pool.layout), Library::of(bench).record(pool));
     let (at, length) = (image.pointer(), image.len());
     let (first, count) = (lent_ranges.pointer(), lent_ranges.len());
     // SAFETY: the pointers lead to that many elements, and the buffers lie apart.

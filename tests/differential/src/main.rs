@@ -12,6 +12,9 @@ mod count_rules;
 mod counts;
 mod damages;
 mod draws;
+mod edition_kinds;
+mod edition_rules;
+mod edition_tally;
 mod faults;
 mod groups;
 mod layouts;
@@ -58,7 +61,11 @@ const USAGE: &str =
            group-of-32-bits, rest-ignored, sources-ignored, q-kept, waiting-kept, count-taken,
            repaired-though-refused, old-homes, stored-though-refused, plan-first, drawn-though-short,
            rest-cleared, second-lowest, drawn-backwards, exact-too-short, room-by-count,
-           length-though-refused, length-in-entries";
+           length-though-refused, length-in-entries; of the edition's rules three-extra, five-extra,
+           extra-each-time, other-inverse, second-as-first, first-as-second, zero-as-first, three-as-second,
+           edition-of-8-bits, edition-of-16-bits, edition-of-32-bits, edition-in-the-start,
+           first-line-of-second, edition-though-refused, and in one call alone first-in-CALL and
+           untested-in-CALL, with the name of the call without splicebell_";
 
 /// Under two minutes, also where x86-64 is emulated.
 const USUAL_RUNS: u64 = 300_000;

@@ -1,7 +1,8 @@
 //! Calls that lend nothing: layout numbers, permutation, places, offsets, image bytes and the walk.
 
 use crate::bench::Bench;
-use crate::layouts::{any, fitting, lent, perhaps_damaged, told};
+use crate::edition_rules;
+use crate::layouts::{any, fitting, perhaps_damaged, told};
 use crate::tally::Call;
 use oracle::layout::{Layout, Numbers};
 use oracle::permutation::{inverse, permutation, Entries};
@@ -38,7 +39,7 @@ fn measure(bench: &mut Bench, y: &Layout) {
     let inputs = || told(y);
     let mut trial = bench.begin(Call::Measure, &inputs);
     // SAFETY: nothing is lent.
-    let answer = unsafe { raw::splicebell_measure(lent(y)) };
+    let answer = unsafe { raw::splicebell_measure(trial.layout(y)) };
     let (refusal, expected) = y.numbers();
     trial.number("refusal", answer.refusal, refusal);
     let Numbers { w, b, l, c, frames, groups, capacity, image } = expected;
@@ -66,7 +67,8 @@ fn tile(
     let inputs = || format!("{} tile {tile}", told(y));
     let mut trial = bench.begin(call, &inputs);
     // SAFETY: nothing is lent.
-    let answer = unsafe { library(lent(y), tile) };
+    let answer = unsafe { library(trial.layout(y), tile) };
+    let answer = edition_rules::entries(bench.spoil, call, y, tile, answer);
     let (refusal, expected) = model(y, tile);
     trial.number("refusal", answer.refusal, refusal);
     let answered = answer.entries.map(u64::from);
@@ -90,7 +92,7 @@ fn find_place(bench: &mut Bench, y: &Layout) {
     let inputs = || format!("{} group {group} unit {unit}", told(y));
     let mut trial = bench.begin(Call::FindPlace, &inputs);
     // SAFETY: nothing is lent.
-    let answer = unsafe { raw::splicebell_find_place(lent(y), group, unit) };
+    let answer = unsafe { raw::splicebell_find_place(trial.layout(y), group, unit) };
     let (refusal, expected) = oracle::place::place(y, group, unit);
     trial.number("refusal", answer.refusal, refusal);
     trial.number("frame", answer.frame, expected.frame);
@@ -104,7 +106,7 @@ fn find_unit(bench: &mut Bench, y: &Layout) {
     let inputs = || format!("{} frame {frame} target {target}", told(y));
     let mut trial = bench.begin(Call::FindUnit, &inputs);
     // SAFETY: nothing is lent.
-    let answer = unsafe { raw::splicebell_find_unit(lent(y), frame, target) };
+    let answer = unsafe { raw::splicebell_find_unit(trial.layout(y), frame, target) };
     let (refusal, expected) = oracle::place::unit_at(y, frame, target);
     trial.number("refusal", answer.refusal, refusal);
     trial.number("group", answer.group, expected.group);
@@ -117,7 +119,7 @@ fn map_offset(bench: &mut Bench, y: &Layout) {
     let inputs = || format!("{} offset {offset}", told(y));
     let mut trial = bench.begin(Call::MapOffset, &inputs);
     // SAFETY: nothing is lent.
-    let answer = unsafe { raw::splicebell_map_offset(lent(y), offset) };
+    let answer = unsafe { raw::splicebell_map_offset(trial.layout(y), offset) };
     let (refusal, expected) = oracle::place::file_byte(y, offset);
     trial.number("refusal", answer.refusal, refusal);
     trial.number("group", answer.group, expected.group);
@@ -132,7 +134,7 @@ fn map_byte(bench: &mut Bench, y: &Layout) {
     let inputs = || format!("{} image byte {x}", told(y));
     let mut trial = bench.begin(Call::MapByte, &inputs);
     // SAFETY: nothing is lent.
-    let answer = unsafe { raw::splicebell_map_byte(lent(y), x) };
+    let answer = unsafe { raw::splicebell_map_byte(trial.layout(y), x) };
     let (refusal, expected) = oracle::place::image_byte(y, x);
     trial.number("refusal", answer.refusal, refusal);
     trial.number("group", answer.group, expected.group);
@@ -149,7 +151,7 @@ fn step(bench: &mut Bench, y: &Layout, at: Cursor) -> Cursor {
     let mut trial = bench.begin(Call::Step, &inputs);
     let from = splicebell_cursor { target: at.target, frame: at.frame };
     // SAFETY: nothing is lent.
-    let answer = unsafe { raw::splicebell_step(lent(y), from) };
+    let answer = unsafe { raw::splicebell_step(trial.layout(y), from) };
     let none = Unit::default();
     let (refusal, done, held, next) = match oracle::place::step(y, at) {
         Step::At(unit, next) => (0, false, unit, next),

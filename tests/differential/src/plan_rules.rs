@@ -3,7 +3,6 @@
 
 use crate::bench::Bench;
 use crate::count_rules;
-use crate::layouts::lent;
 use crate::lent::Lent;
 use crate::plan_draws::{present, width};
 use crate::pools::Pool;
@@ -11,7 +10,7 @@ use crate::spoil::Spoil;
 use oracle::place::{place, unit_targets};
 use oracle::pool::homes;
 use oracle::pool_plan::{check_plan, drawn_plan, missing_contents, Pair, BAD_PLAN};
-use splicebell::raw::{self, splicebell_drawn, splicebell_repaired};
+use splicebell::raw::{self, splicebell_drawn, splicebell_layout, splicebell_repaired};
 use std::collections::BTreeSet;
 
 /// What a library with a fault would do.
@@ -101,8 +100,14 @@ impl Library {
         (is_whole || rule == PlanRule::RestIgnored).then(|| mended(rule, pool, plan))
     }
 
-    pub fn check_plan(self, pool: &Pool, image: &Lent<u8>, plan: &Lent<u64>) -> u64 {
-        let (y, r) = (lent(&pool.layout), self.by_count.record(pool));
+    pub fn check_plan(
+        self,
+        y: splicebell_layout,
+        pool: &Pool,
+        image: &Lent<u8>,
+        plan: &Lent<u64>,
+    ) -> u64 {
+        let r = self.by_count.record(pool);
         let other = self.taken_for(pool, plan.contents());
         let (first, numbers) = plan_or(plan, &other);
         // SAFETY: both pointers lead to that many elements.
@@ -121,8 +126,14 @@ impl Library {
         answer
     }
 
-    pub fn repair_by(self, pool: &Pool, image: &Lent<u8>, plan: &Lent<u64>) -> splicebell_repaired {
-        let (y, r) = (lent(&pool.layout), self.by_count.record(pool));
+    pub fn repair_by(
+        self,
+        y: splicebell_layout,
+        pool: &Pool,
+        image: &Lent<u8>,
+        plan: &Lent<u64>,
+    ) -> splicebell_repaired {
+        let r = self.by_count.record(pool);
         let other = self.taken_for(pool, plan.contents());
         let (first, numbers) = plan_or(plan, &other);
         // SAFETY: both pointers lead to that many elements, and the buffers lie apart.
@@ -137,8 +148,14 @@ impl Library {
         }
     }
 
-    pub fn draw_plan(self, pool: &Pool, image: &Lent<u8>, plan: &Lent<u64>) -> splicebell_drawn {
-        let (y, r) = (lent(&pool.layout), self.by_count.record(pool));
+    pub fn draw_plan(
+        self,
+        y: splicebell_layout,
+        pool: &Pool,
+        image: &Lent<u8>,
+        plan: &Lent<u64>,
+    ) -> splicebell_drawn {
+        let r = self.by_count.record(pool);
         let before = plan.contents().to_vec();
         let (at, room) = (plan.pointer(), plan.len());
         // SAFETY: both pointers lead to that many elements, and the buffers lie apart.

@@ -82,7 +82,8 @@ pub fn check_plan(bench: &mut Bench, pool: &Pool, proposal: &Proposal) {
     let inputs = || format!("{} plan {}", pool.told(), numbers(sent));
     let mut trial = bench.begin(Call::CheckPlan, &inputs);
     let (image, plan) = (bench.lend(&pool.image), bench.lend(sent));
-    let answer = Library::of(bench).check_plan(pool, &image, &plan);
+    let y = trial.layout(&pool.layout);
+    let answer = Library::of(bench).check_plan(y, pool, &image, &plan);
     let refusal = pool_plan::check_plan(&pool.layout, &pool.record, &pool.image, sent);
     trial.number("refusal", answer, refusal);
     trial.buffer("image", &image, &pool.image);
@@ -98,7 +99,8 @@ pub fn repair_by(bench: &mut Bench, pool: &Pool, proposal: &Proposal) -> Pool {
     let inputs = || format!("{} plan {}", pool.told(), numbers(sent));
     let mut trial = bench.begin(Call::RepairBy, &inputs);
     let (image, plan) = (bench.lend_mut(&pool.image), bench.lend(sent));
-    let answer = Library::of(bench).repair_by(pool, &image, &plan);
+    let y = trial.layout(&pool.layout);
+    let answer = Library::of(bench).repair_by(y, pool, &image, &plan);
     let mut after = pool.clone();
     let (refusal, record, count) =
         pool_plan::repair_by(&pool.layout, &pool.record, &mut after.image, sent);
@@ -155,7 +157,8 @@ pub fn draw_plan(bench: &mut Bench, pool: &Pool, room: usize, needed: usize) {
     let inputs = || format!("{} buffer {}", pool.told(), numbers(&before));
     let mut trial = bench.begin(Call::DrawPlan, &inputs);
     let (image, plan) = (bench.lend(&pool.image), bench.lend_mut(&before));
-    let answer = Library::of(bench).draw_plan(pool, &image, &plan);
+    let y = trial.layout(&pool.layout);
+    let answer = Library::of(bench).draw_plan(y, pool, &image, &plan);
     let mut expected = before.clone();
     let (refusal, length) =
         pool_plan::draw_plan(&pool.layout, &pool.record, &pool.image, &mut expected);

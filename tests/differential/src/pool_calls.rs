@@ -4,13 +4,13 @@ use crate::bench::{hex, Bench, Trial};
 use crate::count_kinds::Counted;
 use crate::count_rules::Library;
 use crate::draws::Draws;
-use crate::layouts::{is_light, lent};
+use crate::layouts::is_light;
 use crate::lent::Lent;
 use crate::pools::Pool;
 use crate::tally::Call;
 use oracle::layout::Layout;
 use oracle::pool::Record;
-use splicebell::raw::{self, splicebell_record};
+use splicebell::raw::{self, splicebell_layout, splicebell_record};
 
 /// Most ranges touch few groups, since the model takes its time for each.
 const USUAL_GROUPS: u64 = 60;
@@ -45,19 +45,19 @@ struct Asked {
     rest: String,
 }
 
-/// Makes such a call: `library` is given the lent image and output, `model` the output alone.
+/// Makes such a call: `library` is given the layout, and the lent image and output, `model` the output alone.
 fn fill_output(
     bench: &mut Bench,
     pool: &Pool,
     asked: Asked,
-    library: impl FnOnce(&Lent<u8>, &Lent<u8>) -> u64,
+    library: impl FnOnce(splicebell_layout, &Lent<u8>, &Lent<u8>) -> u64,
     model: impl FnOnce(&mut [u8]) -> u64,
 ) {
     let Asked { call, output, before, rest } = asked;
     let inputs = || format!("{} {rest} {output} {}", pool.told(), hex(&before));
     let mut trial = bench.begin(call, &inputs);
     let (image, out) = (bench.lend(&pool.image), bench.lend_mut(&before));
-    let answer = library(&image, &out);
+    let answer = library(trial.layout(&pool.layout), &image, &out);
     let mut expected = before.clone();
     let refusal = model(&mut expected);
     trial.number("refusal", answer, refusal);
@@ -72,11 +72,10 @@ pub fn read(bench: &mut Bench, pool: &Pool) {
     let before = bench.draws.bytes(length);
     let asked = Asked { call: Call::Read, output: "out", before, rest: format!("offset {offset}") };
     let (y, r, taken) = (&pool.layout, &pool.record, Library::of(bench).record(pool));
-    let library = |image: &Lent<u8>, out: &Lent<u8>| {
+    let library = |y: splicebell_layout, image: &Lent<u8>, out: &Lent<u8>| {
         let (at, length) = (image.pointer(), image.len());
-        let (y, r) = (lent(y), taken);
         // SAFETY: both pointers lead to that many bytes, and the buffers lie apart.
-        unsafe { raw::splicebell_read(y, r, at, length, offset, out.pointer(), out.len()) }
+        unsafe { raw::splicebell_read(y, taken, at, length, offset, out.pointer(), out.len()) }
     };
     let model = |out: &mut [u8]| oracle::pool::read(y, r, &pool.image, offset, out);
     fill_output(bench, pool, asked, library, model);
@@ -100,7 +99,7 @@ pub fn write_at(
     let inputs = || format!("{} offset {offset} bytes {}", pool.told(), hex(stored));
     let mut trial = bench.begin(Call::Write, &inputs);
     let (image, bytes) = (bench.lend_mut(&pool.image), bench.lend(stored));
-    let (y, r) = (lent(&pool.layout), Library::of(bench).record(pool));
+    let (y, r) = (trial.layout(&pool.layout), Library::of(bench).record(pool));
     // SAFETY: both pointers lead to that many bytes, and the buffers lie apart.
     let answer = unsafe {
         raw::splicebell_write(
@@ -153,7 +152,8 @@ pub fn fail_target(bench: &mut Bench, pool: &Pool, target: u64) -> Pool {
     let inputs = || format!("{} target {target}", pool.told());
     let mut trial = bench.begin(Call::Fail, &inputs);
     let image = bench.lend(&pool.image);
-    let answer = Library::of(bench).fail(pool, &image, target);
+    let y = trial.layout(&pool.layout);
+    let answer = Library::of(bench).fail(y, pool, &image, target);
     let (refusal, record) = oracle::pool::fail(&pool.layout, &pool.record, &pool.image, target);
     trial.number("refusal", answer.refusal, refusal);
     compare_record(&mut trial, &answer.record, &record);
@@ -174,7 +174,7 @@ pub fn repair_to(bench: &mut Bench, pool: &Pool, wanted: Option<&Pool>) -> Pool 
     let inputs = || pool.told();
     let mut trial = bench.begin(Call::Repair, &inputs);
     let image = bench.lend_mut(&pool.image);
-    let answer = Library::of(bench).repair(pool, &image);
+    let answer = Library::of(bench).repair(trial.layout(&pool.layout), pool, &image);
     let mut after = pool.clone();
     let (refusal, record, count) =
         oracle::pool::repair(&pool.layout, &pool.record, &mut after.image);
@@ -205,12 +205,13 @@ pub fn prepare(bench: &mut Bench, pool: &Pool) {
     let rest = format!("group {group} content {content}");
     let asked = Asked { call: Call::Prepare, output: "scratch", before, rest };
     let (y, r, taken) = (&pool.layout, &pool.record, Library::of(bench).record(pool));
-    let library = |image: &Lent<u8>, scratch: &Lent<u8>| {
+    let library = |y: splicebell_layout, image: &Lent<u8>, scratch: &Lent<u8>| {
         let (at, length) = (scratch.pointer(), scratch.len());
-        let (y, r) = (lent(y), taken);
         let (image, image_length) = (image.pointer(), image.len());
         // SAFETY: both pointers lead to that many bytes, and the buffers lie apart.
-        unsafe { raw::splicebell_prepare(y, r, image, image_length, group, content, at, length) }
+        unsafe {
+            raw::splicebell_prepare(y, taken, image, image_length, group, content, at, length)
+        }
     };
     let model =
         |scratch: &mut [u8]| oracle::pool::prepare(y, r, &pool.image, group, content, scratch);
@@ -223,7 +224,7 @@ pub fn show(bench: &mut Bench, pool: &Pool) {
         || format!("{} group {group} content {content} scratch {}", pool.told(), hex(&shown));
     let mut trial = bench.begin(Call::Show, &inputs);
     let (image, scratch) = (bench.lend(&pool.image), bench.lend(&shown));
-    let (y, r) = (lent(&pool.layout), Library::of(bench).record(pool));
+    let (y, r) = (trial.layout(&pool.layout), Library::of(bench).record(pool));
     let (at, length) = (scratch.pointer(), scratch.len());
     // SAFETY: both pointers lead to that many bytes.
     let answer = unsafe {
@@ -251,11 +252,11 @@ pub fn hex_line(bench: &mut Bench, pool: &Pool) {
     let before = bench.draws.bytes(length);
     let rest = format!("target {target} frame {frame}");
     let asked = Asked { call: Call::HexLine, output: "line", before, rest };
-    let library = |image: &Lent<u8>, line: &Lent<u8>| {
+    let library = |y: splicebell_layout, image: &Lent<u8>, line: &Lent<u8>| {
         let (at, length) = (image.pointer(), image.len());
         let (line, line_length) = (line.pointer(), line.len());
         // SAFETY: both pointers lead to that many bytes, and the buffers lie apart.
-        unsafe { raw::splicebell_hex_line(lent(y), at, length, target, frame, line, line_length) }
+        unsafe { raw::splicebell_hex_line(y, at, length, target, frame, line, line_length) }
     };
     let model = |line: &mut [u8]| oracle::hexline::hex_line(y, &pool.image, target, frame, line);
     fill_output(bench, pool, asked, library, model);

@@ -22,6 +22,8 @@ const TALL: u64 = 2500;
 const SIX_DIGITS: u64 = 1 << 20;
 /// Before one in so many calls the record gets another count of missing units, mostly the true one.
 pub const RECOUNTED: u64 = 6;
+/// One in so many damaged pools is bad in its edition alone.
+const BAD_EDITION: u64 = 8;
 /// One in so many calls is made with a count at the bound or above, or of 0.
 const ENDS: u64 = 5;
 
@@ -64,14 +66,18 @@ impl Pool {
 
     /// The pool with something else in the place of one thing or more: mostly what a call must refuse.
     pub fn damaged(&self, draws: &mut Draws) -> Pool {
+        if draws.one_in(BAD_EDITION) {
+            return self.with_bad_edition(draws);
+        }
         let mut pool = Pool { holds_file: false, ..self.clone() };
         loop {
-            match draws.below(6) {
+            match draws.below(7) {
                 0 => pool.layout = layouts::damaged(draws, &pool.layout),
                 1 => pool.layout = layouts::any(draws),
                 2 => pool.layout.cookie = draws.word(),
-                3 => pool.image = resized(draws, &self.image),
-                4 => pool.record = records::bad(draws, &self.layout),
+                3 => pool.layout.edition = layouts::edition(draws),
+                4 => pool.image = resized(draws, &self.image),
+                5 => pool.record = records::bad(draws, &self.layout),
                 _ => pool.record = records::good(draws, &self.layout),
             }
             if draws.one_in(2) {
@@ -83,6 +89,12 @@ impl Pool {
     /// The pool with a bad record, and nothing else in its place: a bad layout or a wrong length would be told before.
     pub fn with_bad_record(&self, draws: &mut Draws) -> Pool {
         Pool { record: records::bad(draws, &self.layout), holds_file: false, ..self.clone() }
+    }
+
+    /// The pool with a bad edition, and nothing else in its place.
+    pub fn with_bad_edition(&self, draws: &mut Draws) -> Pool {
+        let layout = layouts::with_bad_edition(draws, &self.layout);
+        Pool { layout, holds_file: false, ..self.clone() }
     }
 
     /// Whether layout, image and record are good ones.

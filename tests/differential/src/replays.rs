@@ -4,7 +4,8 @@ use crate::bench::{hex, quoted, Bench};
 use crate::count_rules::Library;
 use crate::counts::at_an_end;
 use crate::draws::Draws;
-use crate::layouts::{self, is_light, lent};
+use crate::edition_rules;
+use crate::layouts::{self, is_light};
 use crate::line_damages::damage;
 use crate::line_kinds::{FirstLine, Line};
 use crate::pool_calls::{compare_record, fail_target, range, repair, target, write_at};
@@ -24,6 +25,8 @@ const LONGEST_WRITE: u64 = (LONGEST_LINE as u64 - 20) / 2;
 const DIRECTLY: u64 = 10;
 /// One in so many lines is played with a count of missing units at the bound or above, or of 0.
 const ENDS: u64 = 3;
+/// What stands behind a first line that names an edition, which has no place there: a line tells edition 1.
+pub const EDITION_FIELDS: [&[u8]; 3] = [b" 01\n", b" 02\n", b" 0000000000000002\n"];
 /// N, K and P of tiles of a power of two of units, which can make the largest image of all.
 const EVEN_SHAPES: [(u64, u64, u64); 6] =
     [(1, 0, 1), (2, 0, 2), (2, 1, 4), (2, 3, 8), (4, 2, 8), (8, 0, 64)];
@@ -43,7 +46,7 @@ pub fn round(bench: &mut Bench) {
         }
         if bench.draws.one_in(5) {
             first(bench);
-        } else if bench.draws.one_in(5) {
+        } else if bench.draws.one_in(4) {
             let other = damaged(&mut bench.draws, &pool);
             line(bench, &other);
         } else if bench.draws.one_in(ENDS) {
@@ -55,12 +58,13 @@ pub fn round(bench: &mut Bench) {
     }
 }
 
-/// Often bad in its record alone.
+/// Often bad in its record alone, or in its edition.
 fn damaged(draws: &mut Draws, pool: &Pool) -> Pool {
-    if draws.one_in(2) {
-        return pool.damaged(draws);
+    match draws.below(3) {
+        0 => pool.damaged(draws),
+        1 => pool.with_bad_edition(draws),
+        _ => pool.with_bad_record(draws),
     }
-    pool.with_bad_record(draws)
 }
 
 fn usual(draws: &mut Draws) -> Layout {
@@ -119,6 +123,10 @@ fn first(bench: &mut Bench) {
         0 => line.clear(),
         1 => line.truncate(line.len() - 1),
         2..=7 => damage(&mut bench.draws, &mut line, |harm| bench.tally.add_line_damage(harm)),
+        8 => {
+            line.truncate(line.len() - 1);
+            line.extend(bench.draws.pick(&EDITION_FIELDS));
+        }
         _ => {}
     }
     let inputs = || format!("line {}", quoted(&line));
@@ -126,6 +134,7 @@ fn first(bench: &mut Bench) {
     let sent = bench.lend(&line);
     // SAFETY: the pointer leads to that many bytes.
     let answer = unsafe { raw::splicebell_replay_first(sent.pointer(), sent.len()) };
+    let answer = edition_rules::first_line(bench.spoil, answer);
     let expected = replay::first_line(&line);
     let (answered, told) = (answer.layout, &expected.layout);
     trial.number("refusal", answer.refusal, expected.refusal);
@@ -135,6 +144,7 @@ fn first(bench: &mut Bench) {
     trial.number("u", answered.u, told.u);
     trial.number("t", answered.t, told.t);
     trial.number("cookie", answered.cookie, told.cookie);
+    trial.number("edition", answered.edition, told.edition);
     trial.number("image", answer.image, expected.image);
     trial.buffer("line", &sent, &line);
     bench.end(trial, expected.refusal);
@@ -222,7 +232,7 @@ fn play(bench: &mut Bench, pool: &Pool, line: &[u8], room: usize) -> (Played, Po
     let mut trial = bench.begin(Call::ReplayLine, &inputs);
     let (image, sent, answer) =
         (bench.lend_mut(&pool.image), bench.lend(line), bench.lend_mut(&before));
-    let (y, r) = (lent(&pool.layout), Library::of(bench).record(pool));
+    let (y, r) = (trial.layout(&pool.layout), Library::of(bench).record(pool));
     let (at, length) = (image.pointer(), image.len());
     let (first, bytes) = (sent.pointer(), sent.len());
     let (into, room) = (answer.pointer(), answer.len());

@@ -1,11 +1,14 @@
 //! Faults made on purpose, one for each kind of comparison, one for each rule of the catalogue's numbers of two words, one
-//! for each of the count of missing units and one for each of plans of repair: the tester must report every one of them.
+//! for each of the count of missing units, one for each of plans of repair and one for each of the edition: the tester must
+//! report every one of them.
 
 use crate::catalogue_rules::Rule;
 use crate::count_rules::CountRule;
+use crate::edition_rules::EditionRule;
 use crate::lent::Lent;
 use crate::plan_rules::Numbers::{Content, Group, Sources};
 use crate::plan_rules::PlanRule;
+use crate::tally::Call;
 
 /// What a library with a fault would do.
 #[derive(Clone, Copy, Debug, PartialEq, Eq)]
@@ -30,9 +33,11 @@ pub enum Spoil {
     Count(CountRule),
     /// A rule of plans of repair is another.
     Plan(PlanRule),
+    /// A rule of the edition is another.
+    Edition(EditionRule),
 }
 
-const KINDS: [(&str, Spoil); 57] = [
+const KINDS: [(&str, Spoil); 71] = [
     ("answer", Spoil::Answer),
     ("byte", Spoil::Byte),
     ("before", Spoil::Before),
@@ -90,12 +95,38 @@ const KINDS: [(&str, Spoil); 57] = [
     ("room-by-count", Spoil::Plan(PlanRule::RoomByCount)),
     ("length-though-refused", Spoil::Plan(PlanRule::LengthThoughRefused)),
     ("length-in-entries", Spoil::Plan(PlanRule::LengthInEntries)),
+    ("three-extra", Spoil::Edition(EditionRule::Advances(3, 1))),
+    ("five-extra", Spoil::Edition(EditionRule::Advances(5, 1))),
+    ("extra-each-time", Spoil::Edition(EditionRule::Advances(0, 5))),
+    ("other-inverse", Spoil::Edition(EditionRule::OtherInverse)),
+    ("second-as-first", Spoil::Edition(EditionRule::Taken(2, 1))),
+    ("first-as-second", Spoil::Edition(EditionRule::Taken(1, 2))),
+    ("zero-as-first", Spoil::Edition(EditionRule::Taken(0, 1))),
+    ("three-as-second", Spoil::Edition(EditionRule::Taken(3, 2))),
+    ("edition-of-8-bits", Spoil::Edition(EditionRule::Narrow(8))),
+    ("edition-of-16-bits", Spoil::Edition(EditionRule::Narrow(16))),
+    ("edition-of-32-bits", Spoil::Edition(EditionRule::Narrow(32))),
+    ("edition-in-the-start", Spoil::Edition(EditionRule::InTheStart)),
+    ("first-line-of-second", Spoil::Edition(EditionRule::FirstLineOfSecond)),
+    ("edition-though-refused", Spoil::Edition(EditionRule::EditionThoughRefused)),
 ];
+
+/// A rule that is another in the call of this name alone.
+type InACall = fn(&'static str) -> EditionRule;
+
+/// Named with the call's name behind them.
+const IN_A_CALL: [(&str, InACall); 2] =
+    [("first-in-", EditionRule::FirstIn), ("untested-in-", EditionRule::UntestedIn)];
 
 impl Spoil {
     pub fn named(name: &str) -> Option<Spoil> {
-        let (_, kind) = KINDS.iter().find(|(known, _)| *known == name)?;
-        Some(*kind)
+        if let Some((_, kind)) = KINDS.iter().find(|(known, _)| *known == name) {
+            return Some(*kind);
+        }
+        let in_a_call = |(words, rule): &(&str, InACall)| {
+            Some(Spoil::Edition(rule(Call::known(name.strip_prefix(words)?)?)))
+        };
+        IN_A_CALL.iter().find_map(in_a_call)
     }
 
     /// Spoils what stands behind the first `kept` bytes of a buffer, where this kind does.

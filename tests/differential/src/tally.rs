@@ -1,10 +1,12 @@
 //! What has been tried so far: the calls with their refusal numbers, the layouts, the damage done to texts, to plans of
 //! repair and to replayed lines, the kinds of lists of writes, of plans, of calls on catalogues and of calls by the count
-//! in their record, and those of replayed lines with the numbers of their answers.
+//! in their record or the edition of their layout, and those of replayed lines with the numbers of their answers.
 
 use crate::catalogue_kinds::{Asked, CATALOGUE_KINDS};
 use crate::count_kinds::{Counted, COUNTS, COUNT_KINDS, TAKERS};
 use crate::damages::DAMAGES;
+use crate::edition_kinds::Given;
+use crate::edition_tally::EditionTally;
 use crate::line_damages::LINE_DAMAGES;
 use crate::line_kinds::{FirstLine, Line, EVENTS, FIRST_KINDS, LINE_KINDS, MALFORMED};
 use crate::list_kinds::{Listed, KINDS};
@@ -86,6 +88,11 @@ impl Call {
     pub fn name(self) -> &'static str {
         CALLS[self as usize].0
     }
+
+    /// The name itself, where it is a call's.
+    pub fn known(name: &str) -> Option<&'static str> {
+        CALLS.iter().map(|call| call.0).find(|known| *known == name)
+    }
 }
 
 /// The refusal numbers, 0 among them: document 01's table, and 12 to 15 of document 02.
@@ -112,25 +119,26 @@ impl std::fmt::Display for Range {
 /// The ranges of the accepted layouts that calls of one kind were tried with.
 struct Ranges {
     layouts: u64,
-    numbers: [Range; 6],
+    numbers: [Range; 7],
     image: Range,
 }
 
 impl Ranges {
-    const NONE: Ranges = Ranges { layouts: 0, numbers: [Range::NONE; 6], image: Range::NONE };
+    const NONE: Ranges = Ranges { layouts: 0, numbers: [Range::NONE; 7], image: Range::NONE };
 
     fn add(&mut self, y: &Layout) {
         self.layouts += 1;
-        for (range, number) in self.numbers.iter_mut().zip([y.n, y.k, y.p, y.u, y.t, y.cookie]) {
+        let Layout { n, k, p, u, t, cookie, edition } = *y;
+        for (range, number) in self.numbers.iter_mut().zip([n, k, p, u, t, cookie, edition]) {
             range.add(number);
         }
         self.image.add(y.derived().image);
     }
 
     fn print(&self, kind: &str) {
-        let [n, k, p, u, t, cookie] = self.numbers;
+        let [n, k, p, u, t, cookie, edition] = self.numbers;
         println!("{kind}: {} layouts, N {n} K {k} P {p} U {u} T {t} cookie {cookie}", self.layouts);
-        println!("    of {} image bytes", self.image);
+        println!("    edition {edition}, of {} image bytes", self.image);
     }
 }
 
@@ -151,6 +159,7 @@ pub struct Tally {
     /// kind by its count.
     counts_taken: [[u64; COUNTS.len()]; TAKERS.len()],
     counted: [u64; COUNT_KINDS.len()],
+    pub editions: EditionTally,
     plan_layouts: Ranges,
     pub plans: PlanTally,
     replays: Ranges,
@@ -175,6 +184,7 @@ impl Tally {
         catalogues: [0; CATALOGUE_KINDS.len()],
         counts_taken: [[0; COUNTS.len()]; TAKERS.len()],
         counted: [0; COUNT_KINDS.len()],
+        editions: EditionTally::NONE,
         plan_layouts: Ranges::NONE,
         plans: PlanTally::NONE,
         replays: Ranges::NONE,
@@ -273,6 +283,8 @@ impl Tally {
         }
         if let Some(counted) = line.counted() {
             self.add_count(&counted);
+            let Counted { call, pool, refusal, .. } = counted;
+            self.editions.add(&Given { call, layout: &pool.layout, refusal });
         }
     }
 
@@ -303,6 +315,7 @@ impl Tally {
             println!("catalogue: {name:30}{count:9}");
         }
         self.print_counts();
+        self.editions.print();
         self.plans.print();
         self.print_lines();
         self.all.print("without an image");
@@ -341,7 +354,8 @@ impl Tally {
     }
 
     /// The calls and their refusal numbers that were never met, the damage that was never done, and the kinds of
-    /// lists, of plans, of calls on catalogues, of calls by their count and of replayed lines that were never met.
+    /// lists, of plans, of calls on catalogues, of calls by their count or their edition and of replayed lines that were
+    /// never met.
     pub fn never_met(&self) -> Vec<String> {
         let mut never = Vec::new();
         for ((name, refusals), of_call) in CALLS.iter().zip(self.counts) {
@@ -362,6 +376,7 @@ impl Tally {
             never.extend(unmet(&format!("{taker} with"), &COUNTS, counts));
         }
         never.extend(unmet("a call by its count,", &COUNT_KINDS, &self.counted));
+        never.extend(self.editions.never_met());
         never.extend(self.plans.never_met());
         never.extend(unmet("a line damaged by", &LINE_DAMAGES, &self.line_damages));
         never.extend(unmet("a line with", &LINE_KINDS, &self.lines));

@@ -3,7 +3,7 @@
 use crate::bench::{hex, quoted, Bench};
 use crate::damages::damage;
 use crate::draws::Draws;
-use crate::layouts::{self, lent, told};
+use crate::layouts::{self, told};
 use crate::pools::resized;
 use crate::tally::Call;
 use oracle::hexline::line_of;
@@ -142,10 +142,10 @@ fn write(bench: &mut Bench, held: &Held, length: usize, wanted: Option<&[u8]>) -
     let inputs = || format!("{} image {} text {}", told(y), hex(&held.image), hex(&before));
     let mut trial = bench.begin(Call::WriteText, &inputs);
     let (image, text) = (bench.lend(&held.image), bench.lend_mut(&before));
-    let (at, length) = (image.pointer(), image.len());
+    let (lent, at, length) = (trial.layout(y), image.pointer(), image.len());
     // SAFETY: both pointers lead to that many bytes, and the buffers lie apart.
     let answer =
-        unsafe { raw::splicebell_write_text(lent(y), at, length, text.pointer(), text.len()) };
+        unsafe { raw::splicebell_write_text(lent, at, length, text.pointer(), text.len()) };
     let mut expected = before.clone();
     let refusal = pool_text::write_text(y, &held.image, &mut expected);
     trial.number("refusal", answer, refusal);
@@ -173,10 +173,10 @@ fn read(
     let inputs = || format!("{} image {} text {}", told(y), hex(&before), quoted(sent));
     let mut trial = bench.begin(Call::ReadText, &inputs);
     let (text, image) = (bench.lend(sent), bench.lend_mut(&before));
-    let (at, length) = (text.pointer(), text.len());
+    let (lent, at, length) = (trial.layout(y), text.pointer(), text.len());
     // SAFETY: both pointers lead to that many bytes, and the buffers lie apart.
     let answer =
-        unsafe { raw::splicebell_read_text(lent(y), at, length, image.pointer(), image.len()) };
+        unsafe { raw::splicebell_read_text(lent, at, length, image.pointer(), image.len()) };
     let mut expected = before.clone();
     let (refusal, line) = pool_text::read_text(y, sent, &mut expected);
     trial.number("refusal", answer.refusal, refusal);

@@ -61,7 +61,8 @@ pub fn round(bench: &mut Bench) {
 fn layout(draws: &mut Draws) -> Layout {
     let (n, k, p) = draws.pick(&[(1, 2, 6), (2, 2, 7)]);
     let t = BORDER / p + MORE_TILES + draws.below(p);
-    Layout { n, k, p, u: 1, t, cookie: layouts::cookie(draws) }
+    let (cookie, edition) = (layouts::cookie(draws), layouts::edition(draws));
+    Layout { n, k, p, u: 1, t, cookie, edition }
 }
 
 /// A pool of drawn bytes with two failed targets, which had contents of the groups on both sides of the border.

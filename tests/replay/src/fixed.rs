@@ -48,6 +48,11 @@ fn first_lines(all: &mut Vec<Fixed>) {
     add(all, "the first line twice", &[first, first, events]);
     add(all, "events", &[first, events]);
     add(all, "empty lines", &[first, b"\n\n\n", events]);
+    // A first line has no place for an edition.
+    for edition in ["01", "02", "0000000000000001"] {
+        let name = format!("the first line with {edition} for an edition");
+        add(all, &name, &[cut, b" ", edition.as_bytes(), b"\n", events]);
+    }
     for refused in ["00 01 04 0004 000001", "01 04 20 0004 000001", "01 01 02 0004 000001"] {
         add(all, refused, &[refused.as_bytes(), b" 0000000000000000\n", events]);
     }

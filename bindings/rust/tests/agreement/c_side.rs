@@ -1,11 +1,12 @@
 //! What the C compiler makes of the header: a small program, written from the header's own names, prints
-//! sizes, offsets and enum values.
+//! sizes, offsets, enum values and the interface's number.
 use crate::sources::{c_enum, c_structs, file, repository, Named, Structs};
 use std::path::Path;
 use std::process::Command;
 use std::sync::OnceLock;
 
-/// One line for each struct, field and enum value. Tests run side by side, so the program is made once.
+/// One line for each struct, field and enum value, and one for the interface. Tests run side by side, so the
+/// program is made once.
 pub fn printed() -> &'static [String] {
     static PRINTED: OnceLock<Vec<String>> = OnceLock::new();
     PRINTED.get_or_init(compiled_and_run)
@@ -48,6 +49,7 @@ fn program_text() -> String {
     for (name, _) in c_enum(&header) {
         lines += &format!("    printf(\"{name} %d\\n\", {name});\n");
     }
+    lines += "    printf(\"interface %d\\n\", SPLICEBELL_INTERFACE);\n";
     format!("#include <stdio.h>\n#include \"splicebell.h\"\n\nint main(void) {{\n{lines}    return 0;\n}}\n")
 }
 

@@ -1,5 +1,5 @@
 //! The header, these bindings and the Rattle sources agree: layouts of structs, functions with their
-//! parameters, refusal numbers.
+//! parameters, refusal numbers, the interface's number.
 mod c_side;
 mod refusals;
 mod sources;
@@ -13,6 +13,7 @@ use std::mem::{align_of, offset_of, size_of};
 const HEADER: &str = "include/splicebell.h";
 const DECLARATIONS: &str = "bindings/rust/src/raw.rs";
 const EXPORTS: &str = "crates/abi/src/lib.rt";
+const DOCS: &str = "docs/ABI.md";
 
 /// The struct of the header that is a pair of numbers in Rattle, and has no name there.
 const RANGE: &str = "range";
@@ -50,7 +51,7 @@ macro_rules! lines_of {
 
 fn rust_lines() -> Vec<String> {
     lines_of! {
-        splicebell_layout { n k p u t cookie }
+        splicebell_layout { n k p u t cookie edition }
         splicebell_record { failed k q waiting }
         splicebell_numbers { w b l c frames groups capacity image }
         splicebell_measured { refusal numbers { w b l c frames groups capacity image } }
@@ -76,7 +77,7 @@ fn rust_lines() -> Vec<String> {
         splicebell_changed { refusal count }
         splicebell_page { refusal count more next { first second } }
         splicebell_text_read { refusal line }
-        splicebell_first_line { refusal layout { n k p u t cookie } image }
+        splicebell_first_line { refusal layout { n k p u t cookie edition } image }
         splicebell_played { refusal length record { failed k q waiting } }
     }
 }
@@ -96,7 +97,7 @@ fn structs_lie_alike_in_c_and_rust() {
 
 #[test]
 fn the_table_of_the_docs_has_these_sizes_and_offsets() {
-    let docs = file("docs/ABI.md");
+    let docs = file(DOCS);
     let printed = c_side::printed();
     let value = |name: &str| -> Vec<&str> {
         let line = printed.iter().find(|l| l.split(' ').next() == Some(name)).expect("C prints it");
@@ -107,8 +108,8 @@ fn the_table_of_the_docs_has_these_sizes_and_offsets() {
         let offset = |field: &str| format!("`{field}` {}", value(&format!("{whole}.{field}"))[0]);
         let offsets: Vec<_> = fields.iter().map(|(field, _)| offset(field)).collect();
         let row = format!("| `{whole}` | {} | {} |\n", value(&whole)[0], offsets.join(", "));
-        assert!(docs.contains(&row), "docs/ABI.md does not say: {row}");
-        assert_eq!(value(&whole)[1], "8", "docs/ABI.md says that {whole} is aligned to 8");
+        assert!(docs.contains(&row), "{DOCS} does not say: {row}");
+        assert_eq!(value(&whole)[1], "8", "{DOCS} says that {whole} is aligned to 8");
     }
 }
 
@@ -139,6 +140,19 @@ fn a_range_lies_as_a_pair_of_numbers() {
         format!("splicebell_range.length {alone} {alone}"),
     ];
     assert_eq!(c_lines("splicebell_range"), lies);
+}
+
+#[test]
+fn the_interface_has_one_number() {
+    let version = file("VERSION").trim().to_string();
+    let number = version.split('.').next().expect("a version begins with a number");
+    assert_eq!(splicebell::INTERFACE.to_string(), number);
+    assert_eq!(c_lines("interface"), [format!("interface {number}")]);
+    let says = |path, words: String| assert!(file(path).contains(&words), "{path} lacks {words:?}");
+    says(HEADER, format!("#if SPLICEBELL_INTERFACE != {number}\n"));
+    says(DOCS, format!("#if SPLICEBELL_INTERFACE != {number}\n"));
+    says(DOCS, format!("libsplicebell.so.{number} -> libsplicebell.so.{version}\n"));
+    says(DOCS, format!("\n## What {version} "));
 }
 
 /// `record` is a word of the prover's, so Rattle calls such a field `rec`.

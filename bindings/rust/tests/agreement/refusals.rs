@@ -3,7 +3,7 @@ use crate::sources::{file, in_lower_case};
 use crate::HEADER;
 use splicebell::{Catalogue, Entry, Key, Layout, Pool, Record, Refusal};
 
-const LAYOUT: Layout = Layout { n: 1, k: 1, p: 4, u: 4, t: 1, cookie: 0 };
+const LAYOUT: Layout = Layout { n: 1, k: 1, p: 4, u: 4, t: 1, cookie: 0, edition: 1 };
 const IMAGE_LENGTH: usize = 48;
 
 /// The names and numbers as the C program prints those of the header.
