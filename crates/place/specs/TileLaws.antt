@@ -1,5 +1,5 @@
 -- The permutation of a layout's tile, by its name: a list of 64 entries, a bijection of 0 .. n - 1 for n from P to 64, which its inverse undoes.
--- These are the only laws above `tile` that look inside the name.
+-- Above `tile` nothing else looks inside the name, but for statements of `promises` about the editions and the examples.
 use mathlib.Core.Path.{_≡_}
 use Prim.Native.Nat.{ℕ, _≤_, _<_}
 use native.Mathlib.Nat.{le-refl}

@@ -1,7 +1,8 @@
 -- Document 02, order 8: the second edition of the permutation. What holds of every permutation, bijection and distinct drives (`Placement`) and demand 3
--- (`Demand3`), is stated there once, for a layout of either edition; here is what an edition is, and that it moves the places of the units and nothing else.
+-- (`Demand3`), is stated there once, for a layout of either edition; here is what an edition is, and that it changes neither a layout's numbers nor its file.
 use mathlib.Core.Path.{_≡_, refl, sym, ap, _∙_}
 use mathlib.Core.Logic.{_≢_}
+use mathlib.Core.Bool.{Bool}
 use mathlib.Core.List.{List, [], _∷_}
 use Prim.Native.Nat.{ℕ, _-_, _≤_}
 use native.Mathlib.Nat.{le-refl}
@@ -10,11 +11,11 @@ use lib.ListN.{length, take}
 use Rattle.lists.specs.Pick.{equal-or-not}
 use Rattle.lists.specs.Tabulate.{at, tabulate, zeros}
 use Rattle.lists.specs.Bijection.{Bijection}
-use Rattle.lists.specs.Refusal.{refusalBy, grant, grant-no}
+use Rattle.lists.specs.Refusal.{_orElse_, refusalBy, grant, grant-no}
 use Rattle.numbers.specs.declared.Layout.{Layout}
 use Rattle.numbers.specs.Layouts.{Valid, block, rows, groups, capacity, imageLength}
 use Rattle.numbers.specs.Answers.{numbersOf}
-use Rattle.numbers.specs.Refused.{layoutRefusal, refuses}
+use Rattle.numbers.specs.Refused.{validb, valid-false}
 use Rattle.numbers.specs.Editions.{otherEdition, other-valid, other-other}
 use Rattle.tile.specs.Generator.{startOf, nextOf, advanced, extra, beginOf, drawOf}
 use Rattle.tile.specs.Permutation.{own, exchange, shuffleOf, permutationOf, inverseOf}
@@ -41,9 +42,10 @@ module _ (y : Layout) (tile : ℕ) where
   unfolding tilePermutation permutationOf beginOf extra advanced
   edition-two e = ap (λ (d : ℕ). permutationOf d (y .p) (y .cookie) tile) e
 
--- "The layout carries an edition, 1 or 2; another is refused with 1."
-pub edition-refused : (y : Layout) → y .edition ≢ 1 → y .edition ≢ 2 → layoutRefusal y ≡ 1
-edition-refused y one two = refuses y (λ v. two (last v))
+-- "The layout carries an edition, 1 or 2; another is refused with 1": by every call that takes a layout, since its tests begin so, whatever the rest
+pub edition-refused : (y : Layout) → y .edition ≢ 1 → y .edition ≢ 2 → (rest : List (Bool × ℕ)) → refusalBy ((validb y, 1) ∷ rest) ≡ 1
+unfolding refusalBy _orElse_
+edition-refused y one two rest = simp (valid-false y (λ v. two (last v)))
   where
     last : Valid y → y .edition ≡ 2
     last v = omega arith
