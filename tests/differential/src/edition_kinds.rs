@@ -1,12 +1,13 @@
 //! What calls that are given a layout are like by its edition: each kind by its name, told of a call as it was made and
 //! answered.
 
+use crate::count_kinds::TAKERS;
 use crate::layouts::is_edition;
 use oracle::layout::Layout;
 
 /// A call that was given a layout, and what the model answered.
 pub struct Given<'a> {
-    /// One of [`LAYOUT_TAKERS`], or a call that is not counted by its edition.
+    /// One of [`layout_takers`], or a call that is not counted by its edition.
     pub call: &'static str,
     pub layout: &'a Layout,
     pub refusal: u64,
@@ -14,8 +15,8 @@ pub struct Given<'a> {
 
 type Test = fn(&Given) -> bool;
 
-/// The calls that take a layout, the events of a replayed line last: the line's own call does not answer 1.
-pub const LAYOUT_TAKERS: [&str; 29] = [
+/// The calls that take a layout and no failure record.
+const WITHOUT_RECORD: [&str; 13] = [
     "measure",
     "tile_permutation",
     "tile_inverse",
@@ -26,26 +27,18 @@ pub const LAYOUT_TAKERS: [&str; 29] = [
     "step",
     "encode",
     "rebuild",
-    "fail",
-    "read",
-    "write",
-    "write_list",
-    "repair",
-    "check_plan",
-    "repair_by",
-    "draw_plan",
-    "panel",
-    "audit",
-    "prepare",
-    "show",
     "hex_line",
     "write_text",
     "read_text",
-    "line of a write",
-    "line of a fail",
-    "line of a repair",
-    "line of a read",
 ];
+
+pub const LAYOUT_TAKERS: usize = WITHOUT_RECORD.len() + TAKERS.len();
+
+/// The calls that take a layout. Who takes a record takes a layout too, an event of a replayed line among them: the line's
+/// own call does not answer 1.
+pub fn layout_takers() -> impl Iterator<Item = &'static str> {
+    WITHOUT_RECORD.into_iter().chain(TAKERS)
+}
 
 /// What each of the calls must have met: one of them may go by another edition, or not test it.
 pub const EDITIONS: [(&str, Test); 3] = [

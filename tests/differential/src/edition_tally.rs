@@ -1,24 +1,22 @@
 //! What has been tried of editions so far: the calls that take a layout by its edition, and the editions that were refused.
 
-use crate::edition_kinds::{Given, BAD_EDITIONS, EDITIONS, LAYOUT_TAKERS};
+use crate::edition_kinds::{layout_takers, Given, BAD_EDITIONS, EDITIONS, LAYOUT_TAKERS};
 use crate::tally::unmet;
 
 pub struct EditionTally {
     /// How often each call that takes a layout was of each kind that all must meet.
-    taken: [[u64; EDITIONS.len()]; LAYOUT_TAKERS.len()],
+    taken: [[u64; EDITIONS.len()]; LAYOUT_TAKERS],
     /// How often a call was refused for each bad edition.
     bad: [u64; BAD_EDITIONS.len()],
 }
 
 impl EditionTally {
-    pub const NONE: EditionTally = EditionTally {
-        taken: [[0; EDITIONS.len()]; LAYOUT_TAKERS.len()],
-        bad: [0; BAD_EDITIONS.len()],
-    };
+    pub const NONE: EditionTally =
+        EditionTally { taken: [[0; EDITIONS.len()]; LAYOUT_TAKERS], bad: [0; BAD_EDITIONS.len()] };
 
-    /// A call was given a layout and answered. One that is none of [`LAYOUT_TAKERS`] is not counted here.
+    /// A call was given a layout and answered. One that is none of [`layout_takers`] is not counted here.
     pub fn add(&mut self, call: &Given) {
-        let Some(taker) = LAYOUT_TAKERS.iter().position(|name| *name == call.call) else { return };
+        let Some(taker) = layout_takers().position(|name| name == call.call) else { return };
         for ((_, is_met), count) in EDITIONS.iter().zip(&mut self.taken[taker]) {
             *count += u64::from(is_met(call));
         }
@@ -28,7 +26,7 @@ impl EditionTally {
     }
 
     pub fn print(&self) {
-        for (taker, taken) in LAYOUT_TAKERS.iter().zip(self.taken) {
+        for (taker, taken) in layout_takers().zip(self.taken) {
             for ((name, _), count) in EDITIONS.iter().zip(taken) {
                 println!("edition: {taker:17}{name:24}{count:9}");
             }
@@ -40,7 +38,7 @@ impl EditionTally {
 
     pub fn never_met(&self) -> Vec<String> {
         let mut never = unmet("a call refused for an edition of", &BAD_EDITIONS, &self.bad);
-        for (taker, taken) in LAYOUT_TAKERS.iter().zip(&self.taken) {
+        for (taker, taken) in layout_takers().zip(&self.taken) {
             never.extend(unmet(&format!("{taker} with"), &EDITIONS, taken));
         }
         never
