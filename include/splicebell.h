@@ -318,6 +318,15 @@ splicebell_repaired splicebell_repair_by(splicebell_layout y, splicebell_record 
 splicebell_drawn splicebell_draw_plan(splicebell_layout y, splicebell_record r, const uint8_t *image,
                                       size_t image_len, uint64_t *plan, size_t plan_len);
 
+/* Fills a second lent image with the same file in the other edition, N, K, P, U, T and cookie kept: data and
+ * parity of the file that reads of the old pool show, missing contents rebuilt, each at its own place, and
+ * spares of zeros. Its record is the empty one, all zeros, its layout y with edition 3 - y.edition. The old
+ * image is only read; what the new one held does not matter. The two do not overlap.
+ * Refusals: 1, 2 (either image's length: both have the same), 3. Refused: the new image is all zeros, whatever
+ * its length. */
+uint64_t splicebell_move_edition(splicebell_layout y, splicebell_record r, const uint8_t *old_image,
+                                 size_t old_image_len, uint8_t *new_image, size_t new_image_len);
+
 /* What the service panel shows, as the record has it: nothing is counted. The image is lent for its length
  * alone.
  * Refusals: 1, 2, 3. Refused: the other three numbers are 0. */

@@ -139,6 +139,16 @@ pub fn draw_plan(
     unsafe { splicebell_draw_plan(y, r, image.as_ptr(), image.len(), into, room) }
 }
 
+pub fn move_edition(
+    y: splicebell_layout,
+    r: splicebell_record,
+    old_image: &[u8],
+    new_image: &mut [u8],
+) -> u64 {
+    let (into, room) = (new_image.as_mut_ptr(), new_image.len());
+    unsafe { splicebell_move_edition(y, r, old_image.as_ptr(), old_image.len(), into, room) }
+}
+
 pub fn panel(y: splicebell_layout, r: splicebell_record, image: &[u8]) -> splicebell_counts {
     unsafe { splicebell_panel(y, r, image.as_ptr(), image.len()) }
 }

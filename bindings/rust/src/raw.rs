@@ -317,6 +317,14 @@ extern "C" {
         plan: *mut u64,
         plan_len: usize,
     ) -> splicebell_drawn;
+    pub fn splicebell_move_edition(
+        y: splicebell_layout,
+        r: splicebell_record,
+        old_image: *const u8,
+        old_image_len: usize,
+        new_image: *mut u8,
+        new_image_len: usize,
+    ) -> u64;
     pub fn splicebell_panel(
         y: splicebell_layout,
         r: splicebell_record,
