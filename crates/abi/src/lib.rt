@@ -38,6 +38,7 @@ ghost use Rattle.group.specs.Rebuild.{Rebuilding};
 ghost use Rattle.pool.specs.Calls.{Fails, Reads, Writes, Repairs, Prepares, Panels, Audits};
 ghost use Rattle.pool_list.specs.Ranges.{WritesList};
 ghost use Rattle.proposal.specs.Calls.{RepairsBy, ChecksPlan, Draws};
+ghost use Rattle.moving.specs.Moving.{Moves};
 ghost use Rattle.entries.specs.Promise.{Lookup, Insert, Delete, Listing};
 ghost use Rattle.hexline.specs.HexLine.{HexLine};
 ghost use Rattle.pool_text.specs.TextCalls.{WritesText, ReadsText};
@@ -238,6 +239,18 @@ pub extern "C" fn splicebell_draw_plan(
     ensures { λ x. ⌜ Draws y r (now (image .entry)) (now (plan .entry)) (x .refusal) (x .length) (now (plan .exit)) ⌝ }
 {
     pool_plan::draw_plan(y, r, image, plan)
+}
+
+#[no_mangle]
+pub extern "C" fn splicebell_move_edition(
+    y: Layout,
+    r: Record,
+    old_image: &[u8],
+    new_image: &mut [u8],
+) -> u64
+    ensures { λ n. ⌜ Moves y r (now («old_image» .entry)) (length (now («new_image» .entry))) n (now («new_image» .exit)) ⌝ }
+{
+    pool_move::move_edition(y, r, old_image, new_image)
 }
 
 #[no_mangle]

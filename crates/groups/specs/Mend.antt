@@ -7,13 +7,14 @@ use native.Mathlib.Omega.{arith}
 use lib.ListN.{length, getD}
 use Rattle.lists.specs.Pick.{pick, clash}
 use Rattle.lists.specs.Part.{within-cases}
-use Rattle.lists.specs.Lays.{Lays}
+use Rattle.lists.specs.Lays.{Lays, lays-ext}
 use Rattle.parity.specs.Local.{rebuilt-cong}
 use Rattle.plan.specs.declared.Plan.{Plan}
 use Rattle.plan.specs.Plans.{atOf, missOf, Fits, column, held}
-use Rattle.runs.specs.Run.{runSet, one-ext, paint, paint-length, paint-hit, paint-miss, paint-turn}
+use Rattle.runs.specs.Run.{runSet, one-ext, paint, paint-length, paint-miss, paint-turn}
 use Rattle.runs.specs.Held.{heldRun}
 use Rattle.runs.specs.InPlace.{runs-aside, Clear}
+use Rattle.runs.specs.Laying.{paint-lays}
 
 -- "stores every missing content at its home under the whole list"
 unfoldable pub groupMended : Plan → List ℕ → List ℕ → List ℕ
@@ -80,23 +81,6 @@ pub mend-lays : (P : Plan) (homes img img′ : List ℕ) → MendFits P homes (l
     → img′ ≡ groupMended P homes img → Lays (P .n + P .k) (P .u) (λ c. getD homes c 0) (λ c o. missOf P c) (λ c o. held P img o c) img img′
 unfolding groupMended heldRun
 mend-lays P homes img img′ mend e =
-    record {
-      same = ap length e ∙ paint-length (missOf P) at (P .u) val (P .n + P .k) img;
-      hit = λ c o hc ho t.
-          let z : 0 + o ≡ o = omega arith in
-          ap (λ (l : List ℕ). getD l (getD homes c 0 + o) 0) e
-          ∙ paint-hit (missOf P) at (P .u) val (P .n + P .k) img c o hc t ho (mend .inside c hc t)
-          (λ j hj tj (ne : j ≡ c → ⊥).
-          within-cases (at j) (P .u) (at c + o) (λ p q. absurd (ne (mend .apart j c (at c + o - at j) o hj hc (omega arith) ho (omega arith)))) (λ w. w))
-          ∙ ap (λ (x : ℕ). held P img x c) z;
-      miss = λ x h w.
-          ap (λ (l : List ℕ). getD l x 0) e
-          ∙ paint-miss (missOf P) at (P .u) val (P .n + P .k) img x h
-          (λ c hc tc. within-cases (at c) (P .u) x (λ p q. absurd (w c (x - at c) hc (omega arith) tc (omega arith))) (λ z. z));
-    }
-  where
-    at : ℕ → ℕ
-    at c = getD homes c 0
-
-    val : ℕ → ℕ → ℕ
-    val c o = held P img (0 + o) c
+    lays-ext (P .n + P .k) (P .u) (λ c. getD homes c 0) _ _ _ _ img img′ (λ c o hc ho. refl)
+    (λ c o hc ho t. let z : 0 + o ≡ o = omega arith in ap (λ (x : ℕ). held P img x c) z)
+    (paint-lays (missOf P) (λ c. getD homes c 0) (P .u) (λ c o. held P img (0 + o) c) (P .n + P .k) img img′ (mend .inside) (mend .apart) e)

@@ -6,6 +6,7 @@ use mathlib.Core.List.{List}
 use Prim.Native.Nat.{ℕ, suc, _+_, _-_, _≤_, _<_}
 use native.Mathlib.Omega.{arith}
 use Rattle.lists.specs.Count.{count}
+use Rattle.lists.specs.Search.{any}
 use Rattle.numbers.specs.declared.Layout.{Layout}
 use Rattle.numbers.specs.Layouts.{Valid, width, contents}
 use Rattle.place.specs.PlaceLaws.{apart}
@@ -15,6 +16,16 @@ use Rattle.homes.specs.Homes.{homes}
 use Rattle.homes.specs.HomesLaws.{Apart, homes-apart, spare-for, homes-alive, on-listed, homes-stay, homes-same}
 use Rattle.homes.specs.Records.{entry, failed, Good}
 use Rattle.homes.specs.Missing.{targetAt, home, missing}
+
+-- under no entry each content is at its own unit
+pub home-own : (y : Layout) (R : Record) (g j c : ℕ) → j ≡ 0 → home y R j g c ≡ c
+unfolding home homes
+home-own y R g j c none = ap (λ (i : ℕ). home y R i g c) none
+
+-- and where no target has failed nothing is missing
+pub unfailed-present : (y : Layout) (R : Record) → R .k ≡ 0 → (g c : ℕ) → missing y R g c ≡ false
+unfolding missing listed any
+unfailed-present y R none g c = ap (λ (k : ℕ). listed (entry R) k (targetAt y g (home y R (R .q) g c))) none
 
 -- the units of a group lie on different targets
 pub units-apart : (y : Layout) → Valid y → (g d d′ : ℕ) → d < contents y + y .k → d′ < contents y + y .k → targetAt y g d ≡ targetAt y g d′ → d ≡ d′

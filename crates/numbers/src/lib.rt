@@ -5,6 +5,7 @@ ghost use Prim.Native.Nat.{_≤_};
 ghost use Rattle.numbers.specs.Layouts.{Valid, allGroups, allContents};
 ghost use Rattle.numbers.specs.Refused.{layoutRefusal};
 ghost use Rattle.numbers.specs.Answers.{Shaped, Numbered};
+ghost use Rattle.numbers.specs.Editions.{otherEdition};
 
 // Document 01's six numbers: N data units and K parity units a group (with K spares), P targets,
 // U bytes a unit, T tiles, and the cookie that the permutations start from. And document 02's
@@ -132,4 +133,20 @@ pub fn all_contents(y: Layout, groups: u64) -> u64
     ensures { λ r. ⌜ (r ≡ allContents y) × (r ≤ 79691776) ⌝ }
 {
     groups * (y.n + y.k)
+}
+
+// The same layout in the other edition: 2 for 1, and 1 for 2.
+pub fn other_edition(y: Layout) -> Layout
+    requires { ⌜ Valid y ⌝ }
+    ensures { λ r. ⌜ r ≡ otherEdition y ⌝ }
+{
+    Layout {
+        n: y.n,
+        k: y.k,
+        p: y.p,
+        u: y.u,
+        t: y.t,
+        cookie: y.cookie,
+        edition: 3 - y.edition,
+    }
 }

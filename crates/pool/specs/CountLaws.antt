@@ -6,12 +6,12 @@ use native.Mathlib.Omega.{arith}
 use lib.ListN.{length}
 use lib.Seq.{getD-set-same}
 use Rattle.lists.specs.Pick.{bit}
-use Rattle.lists.specs.Search.{any}
 use Rattle.lists.specs.Count.{count, sum, count-le, count-none, count-two, sum-two, sum-none, sum-le}
 use Rattle.numbers.specs.declared.Layout.{Layout}
 use Rattle.numbers.specs.Layouts.{Valid, allGroups, contents, allContents}
 use Rattle.homes.specs.declared.Record.{Record}
 use Rattle.homes.specs.Listed.{listed}
+use Rattle.homes.specs.MissingLaws.{unfailed-present}
 use Rattle.homes.specs.Once.{listed-more}
 use Rattle.homes.specs.Records.{entry, failed, Good}
 use Rattle.homes.specs.Missing.{targetAt, home, missing}
@@ -53,10 +53,8 @@ repair-clears y R v good =
 
 -- nothing has failed: nothing is missing
 pub unfailed-clear : (y : Layout) (R : Record) → R .k ≡ 0 → missingUnits y R ≡ 0
-unfolding missingUnits missing listed any
-unfailed-clear y R z =
-    sum-none _ (allGroups y)
-    (λ g l. count-none (missing y R g) (contents y) (λ c b. ap (λ (k : ℕ). listed (entry R) k (targetAt y g (home y R (R .q) g c))) z))
+unfolding missingUnits
+unfailed-clear y R z = sum-none _ (allGroups y) (λ g l. count-none (missing y R g) (contents y) (λ c b. unfailed-present y R z g c))
 
 -- ---- bounds
 

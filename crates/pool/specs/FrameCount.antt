@@ -23,7 +23,7 @@ use Rattle.homes.specs.Homes.{homes}
 use Rattle.homes.specs.HomesLaws.{homes-stay}
 use Rattle.homes.specs.Records.{entry, Good}
 use Rattle.homes.specs.Missing.{targetAt, home}
-use Rattle.homes.specs.MissingLaws.{home-lt}
+use Rattle.homes.specs.MissingLaws.{home-own, home-lt}
 use Rattle.pool.specs.Storing.{owner}
 use Rattle.pool.specs.StoringLaws.{owner-home}
 use Rattle.pool.specs.Elsewhere.{isHome}
@@ -170,9 +170,9 @@ module _ (y : Layout) (R : Record) (g u : ℕ) (unrepaired : listed (entry R) (R
 
 -- and while nothing is repaired no spare is a home
 pub unrepaired-home : (y : Layout) (R : Record) → R .q ≡ 0 → (g u : ℕ) → contents y ≤ u → isHome y R g u ≡ false
-unfolding isHome home homes
+unfolding isHome
 unrepaired-home y R z g u h =
     any-false (λ c. eqb (home y R (R .q) g c) u) (contents y)
     (λ c b. ne-eqb _ u (λ (e : home y R (R .q) g c ≡ u).
-    let own : home y R (R .q) g c ≡ c = ap (λ (j : ℕ). homes (targetAt y g) (contents y) (y .k) (entry R) j c) z in
+    let own : home y R (R .q) g c ≡ c = home-own y R g (R .q) c z in
     omega arith))

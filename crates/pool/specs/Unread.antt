@@ -61,7 +61,7 @@ module _ (y : Layout) (R R′ : Record) (alike : Alike R R′) where
 
   -- ---- the numbers
 
-  good-same : recordGood y R ≡ recordGood y R′
+  pub good-same : recordGood y R ≡ recordGood y R′
   good-same = good-unread y (R .failed) (R′ .failed) (R .k) (R .q) (R .waiting) (alike .same-entries) ∙ ap (recordGood y) is-twin
 
   pub tests-same : (len : ℕ) (rest : List (Bool × ℕ)) → refusalBy (poolTests y R len rest) ≡ refusalBy (poolTests y R′ len rest)
@@ -105,7 +105,7 @@ module _ (y : Layout) (R R′ : Record) (alike : Alike R R′) where
     unfolding stored
     stored-unread img = λ i g o c. at img (spot y g (homes-unread i g c) o)
 
-    bytes-unread : (img : List ℕ) → contentByte y R img ≡ contentByte y R′ img
+    pub bytes-unread : (img : List ℕ) → contentByte y R img ≡ contentByte y R′ img
     unfolding contentByte
     bytes-unread img = λ i g o c. rebuilt (y .n) (y .k) (lost-unread i g) (stored-unread img i g o) c
 

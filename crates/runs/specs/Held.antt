@@ -15,6 +15,10 @@ pub runOf-more : (src : List ℕ) (from i o : ℕ) → runOf src (from + i) o �
 unfolding runOf
 runOf-more src from i o = ap (λ (x : ℕ). getD src x 0) (add-assoc from i o)
 
+-- zeros
+unfoldable pub zeroByte : ℕ → ℕ
+zeroByte o = 0
+
 -- the bytes of content c from unit offset lo on, as they stand or rebuilt
 unfoldable pub heldRun : Plan → List ℕ → ℕ → ℕ → ℕ → ℕ
 heldRun P img lo c o = held P img (lo + o) c

@@ -1,4 +1,5 @@
-pub mod Run
 pub mod Held
-pub mod Steps
 pub mod InPlace
+pub mod Laying
+pub mod Run
+pub mod Steps

@@ -1,11 +1,11 @@
-// Runs of bytes of one group: copied, and rebuilt where a content is missing.
+// Runs of bytes of one group: copied, cleared, and rebuilt where a content is missing.
 ghost use mathlib.Core.Path.{_≡_};
 ghost use mathlib.Core.Bool.{true};
 ghost use Prim.Native.Nat.{ℕ, _+_, _<_, _≤_};
 ghost use lib.ListN.{length, getD};
 ghost use Rattle.plan.specs.Plans.{atOf, missOf, Fits};
 ghost use Rattle.runs.specs.Run.{runSet};
-ghost use Rattle.runs.specs.Held.{runOf, heldRun};
+ghost use Rattle.runs.specs.Held.{runOf, zeroByte, heldRun};
 ghost use Rattle.runs.specs.InPlace.{Clear};
 use plan::Plan;
 
@@ -44,6 +44,18 @@ pub fn put_run(out: &mut [u8], to: usize, src: &[u8], from: usize, len: usize)
         i += 128;
     }
     put_piece(out, to + i, src, from + i, len - i);
+}
+
+// Zeros in the `len` bytes of `out` from `to` on.
+pub fn clear_run(out: &mut [u8], to: usize, len: usize)
+    requires { ⌜ to + len ≤ length (now out) ⌝ }
+    ensures { λ _. ⌜ now (out .exit) ≡ runSet to len zeroByte (now (out .entry)) ⌝ }
+{
+    let mut i: usize = 0;
+    while i < len {
+        out[to + i] = 0;
+        i += 1;
+    }
 }
 
 // Where the units of the slots begin, from unit offset lo on.

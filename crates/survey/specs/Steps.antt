@@ -12,10 +12,9 @@ use Rattle.place.specs.Bytes.{spot}
 use Rattle.parity.specs.Group.{Solvable}
 use Rattle.parity.specs.Matrix.{flag}
 use Rattle.homes.specs.declared.Record.{Record}
-use Rattle.homes.specs.Homes.{homes}
 use Rattle.homes.specs.Records.{failed, Good}
 use Rattle.homes.specs.Missing.{targetAt, home, missing}
-use Rattle.homes.specs.MissingLaws.{home-lt, home-alive}
+use Rattle.homes.specs.MissingLaws.{home-own, home-lt, home-alive}
 use Rattle.homes.specs.Standing.{HomesAre}
 use Rattle.homes.specs.StandingLaws.{homes-are}
 use Rattle.pool.specs.Holds.{solvable}
@@ -69,12 +68,8 @@ module _ (y : Layout) (R : Record) (g : ℕ) (x : Stand) (st : Stands y R g x) w
       }
 
 -- under no entry each content is at its own unit
-own-home : (y : Layout) (R : Record) (g j c : ℕ) → j ≡ 0 → c ≡ home y R j g c
-unfolding home homes
-own-home y R g j c none = ap (λ (i : ℕ). home y R i g c) (sym none)
-
 own-starts-under : (y : Layout) (R : Record) (g j : ℕ) → j ≡ 0 → (at : List ℕ) → ((c : ℕ) → c < contents y → getD at c 0 ≡ spot y g c 0) → StartsUnder y R j g at
-own-starts-under y R g j none at e c b = e c b ∙ ap (λ (u : ℕ). spot y g u 0) (own-home y R g j c none)
+own-starts-under y R g j none at e c b = e c b ∙ ap (λ (u : ℕ). spot y g u 0) (sym (home-own y R g j c none))
 
 -- so while nothing is repaired, where the units begin and which of them lie on a failed target tells all
 pub own-stands : (y : Layout) (R : Record) (g : ℕ) → R .q ≡ 0 → (x : Stand) → ((c : ℕ) → c < contents y → getD (x .at) c 0 ≡ spot y g c 0)
@@ -83,7 +78,7 @@ unfolding missing
 own-stands y R g none x starts flags =
     record {
       starts = own-starts-under y R g (R .q) none (x .at) starts;
-      flags = λ c b. flags c b ∙ ap (λ (u : ℕ). failed R (targetAt y g u)) (own-home y R g (R .q) c none);
+      flags = λ c b. flags c b ∙ ap (λ (u : ℕ). failed R (targetAt y g u)) (sym (home-own y R g (R .q) c none));
     }
 
 -- where all failed targets are repaired nothing is missing, since no home under the whole list lies on one of them

@@ -7,9 +7,9 @@ use numbers::Shape;
 use plan::Plan;
 ghost use mathlib.Core.Path.{_≡_};
 ghost use mathlib.Core.Bool.{false};
-ghost use Prim.Native.Nat.{ℕ, _≤_, _<_};
+ghost use Prim.Native.Nat.{ℕ, _+_, _≤_, _<_};
 ghost use lib.ListN.{getD};
-ghost use Rattle.numbers.specs.Layouts.{Valid, contents, allGroups};
+ghost use Rattle.numbers.specs.Layouts.{Valid, width, contents, allGroups};
 ghost use Rattle.numbers.specs.Answers.{Shaped};
 ghost use Rattle.place.specs.Places.{tilePermutation};
 ghost use Rattle.place.specs.Bytes.{spot};
@@ -46,16 +46,15 @@ pub fn sites_of(y: Layout, s: Shape, to: &[u8; 64], g: u64) -> Sites
     Sites { targets, starts }
 }
 
-// Where a group's contents begin while each is at its own unit.
-fn own_starts(y: Layout, s: Shape, to: &[u8; 64], g: u64) -> [usize; 19]
-    requires { ⌜ InTile y s (now to) g ⌝ }
-    ensures { λ r. ⌜ ((c : ℕ) → c < contents y → getD r c 0 ≡ spot y g c 0) ⌝ }
+// Where `count` of a group's units begin, from unit `first` on.
+fn unit_starts(y: Layout, s: Shape, to: &[u8; 64], g: u64, first: u64, count: usize) -> [usize; 19]
+    requires { ⌜ InTile y s (now to) g × (first < width y) × (first + count ≤ width y) × (count ≤ 19) ⌝ }
+    ensures { λ r. ⌜ ((c : ℕ) → c < count → getD r c 0 ≡ spot y g (first + c) 0) ⌝ }
 {
-    let m = (y.n + y.k) as usize;
     let mut at = [0usize; 19];
-    let mut cell = place::cell_of(y, s, g, 0);
+    let mut cell = place::cell_of(y, s, g, first);
     let mut c: usize = 0;
-    while c < m {
+    while c < count {
         let a = place::place_at(to, cell);
         let start = place::spot_of(y, s, a, 0);
         at[c] = start as usize;
@@ -63,6 +62,25 @@ fn own_starts(y: Layout, s: Shape, to: &[u8; 64], g: u64) -> [usize; 19]
         c += 1;
     }
     at
+}
+
+// Where a group's contents begin while each is at its own unit.
+fn own_starts(y: Layout, s: Shape, to: &[u8; 64], g: u64) -> [usize; 19]
+    requires { ⌜ InTile y s (now to) g ⌝ }
+    ensures { λ r. ⌜ ((c : ℕ) → c < contents y → getD r c 0 ≡ spot y g c 0) ⌝ }
+{
+    unit_starts(y, s, to, g, 0, (y.n + y.k) as usize)
+}
+
+// Where a group's spares begin, which come after its contents.
+pub fn spare_starts(y: Layout, s: Shape, to: &[u8; 64], g: u64) -> [usize; 19]
+    requires { ⌜ InTile y s (now to) g ⌝ }
+    ensures { λ r. ⌜ ((i : ℕ) → i < y .k → getD r i 0 ≡ spot y g (contents y + i) 0) ⌝ }
+{
+    if y.k == 0 {
+        return [0usize; 19];
+    }
+    unit_starts(y, s, to, g, y.n + y.k, y.k as usize)
 }
 
 // Which of a group's contents lie on a failed target while each is at its own unit.

@@ -280,7 +280,8 @@ fn put_parity(
     put_around(p, image, lost, starts, row, to, len);
 }
 
-fn put_parities(p: Plan, image: &mut [u8], lost: &[u8], lo: usize, len: usize)
+// All parities that are present, each at its home.
+pub fn put_parities(p: Plan, image: &mut [u8], lost: &[u8], lo: usize, len: usize)
     requires { ⌜ Fits p (length (now image)) × Apart p × (lo + len ≤ p .u) × Keeps p (length (now lost)) ⌝ }
     ensures { λ _. ⌜ now (image .exit) ≡ paint (standing p) (parityAt p lo) len (parityOver p (now (image .entry)) (now (lost .entry)) lo) (p .k) (now (image .entry)) ⌝ }
 {

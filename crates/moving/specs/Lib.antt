@@ -1,0 +1,4 @@
+pub mod Fresh
+pub mod Moving
+pub mod FreshLaws
+pub mod MoveLaws
