@@ -32,8 +32,8 @@ use Rattle.proposal.specs.RunningLaws.{plan-count}
 use Rattle.pool_list.specs.Ranges.{laidRanges, WritesList}
 use Rattle.pool_list.specs.Kept.{WrittenByOne}
 use Rattle.promises.specs.Runs.{Event, write, writeList, fail, repair, repairBy, read, look, scribble, State, start, step, run, laidOn}
-use Rattle.promises.specs.RunLaws.{started, ran}
-use Rattle.promises.specs.Demand3.{Right, demand-3, file-of-run}
+use Rattle.promises.specs.RunLaws.{Inside, started, ran}
+use Rattle.promises.specs.Demand3.{Right, right-from, file-of-run}
 
 -- s′ is a state that an event may leave, by the call's promise: n is the number that the call answers, 0 where the call is accepted. What a promise says
 -- nothing of was not lent to be changed, and stays. The current file has the bytes of a write laid on where it is accepted, and of
@@ -188,11 +188,16 @@ outcomes-right y s r =
       panel-shows = λ n waiting failed repaired p. (p .answer ∙ unrefused y s r, p .waits ∙ panelled y s r);
     }
 
--- ---- demand 3: after any run of calls that keep their promises, from zeros and an empty list
+-- ---- demand 3: after any run of calls that keep their promises, from a state that holds its file,
+
+pub calls-right-from : (y : Layout) → Valid y → (s : State) → Inside y s → (es : List Event) (s′ : State) → Reaches y s es s′ → OutcomesRight y s′
+calls-right-from y v s a es s′ p = subst⁻¹ (OutcomesRight y) (reaches-run y es s s′ p) (outcomes-right y (run y s es) (right-from y v s a es))
+
+-- and so from zeros and an empty list
 
 module _ (y : Layout) (valid : Valid y) (room : List ℕ) (three : length room ≡ 3) (es : List Event) (s : State) (p : Reaches y (start y room) es s) where
   pub calls-right : OutcomesRight y s
-  calls-right = subst⁻¹ (OutcomesRight y) (reaches-run y es (start y room) s p) (outcomes-right y (run y (start y room) es) (demand-3 y valid room three es))
+  calls-right = calls-right-from y valid (start y room) (started y valid room three) es s p
 
   -- "that file: zeros, with the accepted writes laid on in order"
   pub file-of-calls : s .file ≡ laidOn y (zeros (capacity y)) es

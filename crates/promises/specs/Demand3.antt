@@ -63,6 +63,7 @@ pub record Right (y : Layout) (s : State) : Type 0 where
   -- no call is refused with 1, 2 or 3: its own tests decide
   pub accepted : (rest : List (Bool × ℕ)) → refusalBy (poolTests y (s .rec) (length (s .img)) rest) ≡ refusalBy rest
 
+-- a state that holds its file under a good record with a true count is right
 right : (y : Layout) → Valid y → (s : State) → Inside y s → Right y s
 right y v s a =
     record {
@@ -79,10 +80,14 @@ right y v s a =
       accepted = sound-passes y (s .rec) (length (s .img)) (inside-sound y v s a);
     }
 
+-- and so is every state of a run that begins there
+pub right-from : (y : Layout) → Valid y → (s : State) → Inside y s → (es : List Event) → Right y (run y s es)
+right-from y v s a es = right y v (run y s es) (ran y v es s a)
+
 module _ (y : Layout) (valid : Valid y) (room : List ℕ) (three : length room ≡ 3) where
   -- after every run of events, and so after every event of a run
   pub demand-3 : (es : List Event) → Right y (run y (start y room) es)
-  demand-3 es = right y valid (run y (start y room) es) (ran y valid es (start y room) (started y valid room three))
+  demand-3 = right-from y valid (start y room) (started y valid room three)
 
   -- "that file: zeros, with the accepted writes laid on in order"
   pub file-of-run : (es : List Event) → run y (start y room) es .file ≡ laidOn y (zeros (capacity y)) es

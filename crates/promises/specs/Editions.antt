@@ -13,10 +13,11 @@ use Rattle.lists.specs.Tabulate.{at, tabulate, zeros}
 use Rattle.lists.specs.Bijection.{Bijection}
 use Rattle.lists.specs.Refusal.{_orElse_, refusalBy, grant, grant-no}
 use Rattle.numbers.specs.declared.Layout.{Layout}
-use Rattle.numbers.specs.Layouts.{Valid, block, rows, groups, capacity, imageLength}
+use Rattle.numbers.specs.Layouts.{Valid, block, groups, capacity, imageLength}
 use Rattle.numbers.specs.Answers.{numbersOf}
 use Rattle.numbers.specs.Refused.{validb, valid-false}
 use Rattle.numbers.specs.Editions.{otherEdition, other-valid, other-other}
+use Rattle.numbers.specs.Editions as E
 use Rattle.tile.specs.Generator.{startOf, nextOf, advanced, extra, beginOf, drawOf}
 use Rattle.tile.specs.Permutation.{own, exchange, shuffleOf, permutationOf, inverseOf}
 use Rattle.tile.specs.Laws.{permutation-inverse}
@@ -71,16 +72,13 @@ module _ (y : Layout) where
   other-back = other-other y
 
   pub other-numbers : numbersOf (otherEdition y) ≡ numbersOf y
-  unfolding numbersOf otherEdition rows groups block
-  other-numbers = refl
+  other-numbers = E.other-numbers y
 
   pub other-capacity : capacity (otherEdition y) ≡ capacity y
-  unfolding otherEdition groups block
-  other-capacity = refl
+  other-capacity = E.other-capacity y
 
   pub other-image : imageLength (otherEdition y) ≡ imageLength y
-  unfolding otherEdition rows block
-  other-image = refl
+  other-image = E.other-image y
 
   -- a file offset lies in the same byte of the same unit of the same group
   pub other-offset : (x : ℕ) → (groupOf (otherEdition y) x ≡ groupOf y x) × (unitIn (otherEdition y) x ≡ unitIn y x) × (byteIn (otherEdition y) x ≡ byteIn y x)

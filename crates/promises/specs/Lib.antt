@@ -18,9 +18,11 @@ pub mod HexLine
 pub mod PoolText
 pub mod WriteList
 pub mod RepairPlan
+pub mod MoveEditions
 pub mod Replay
 pub mod Examples
 pub mod TextExamples
 pub mod ListExamples
 pub mod PlanExamples
+pub mod MoveExamples
 pub mod ReplayExamples

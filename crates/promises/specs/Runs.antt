@@ -20,9 +20,9 @@ use Rattle.proposal.specs.Running.{planImage, planRecord}
 use Rattle.pool_list.specs.Ranges.{listTests, listRefusal, listImage, laidRanges}
 
 -- an event: a call with any arguments (the bytes of a write and of a list are bytes, the buffer of a read and the scratch of a look have any length, a plan
--- is any list of numbers), or others scribbling: `ink x` is what they would put at image byte x. No event fills an image from a text (`PoolText`), nor is
--- there one for the panel or the audit (`Counts`), for the check of a plan or for our planner (`RepairPlan`): they hand back no record and change no byte
--- of the image
+-- is any list of numbers), or others scribbling: `ink x` is what they would put at image byte x. An image lent to be filled is outside the runs: no event
+-- fills one from a text (`PoolText`) or by a move to the other edition (`MoveEditions`). Nor is there one for the panel or the audit (`Counts`), for the
+-- check of a plan or for our planner (`RepairPlan`), or for the old pool of a move: they hand back no record and change no byte of the image
 pub data Event : Type 0 where
   write : (offset : ℕ) (bytes : List ℕ) → ((i : ℕ) → i < length bytes → at bytes i < 256) → Event
   writeList : (ranges : List (List ℕ)) (bytes : List ℕ) → ((i : ℕ) → i < length bytes → at bytes i < 256) → Event
