@@ -2,13 +2,15 @@
 use mathlib.Core.Path.{_≡_}
 use mathlib.Core.Bool.{Bool, true}
 use mathlib.Core.List.{List}
-use Prim.Native.Nat.{ℕ, _+_}
+use Prim.Native.Nat.{ℕ, _-_}
+use lib.Dec.{ltb}
 use lib.ListN.{getD}
-use Rattle.parity.specs.Group.{content}
+use Rattle.lists.specs.Pick.{pick}
+use Rattle.parity.specs.Group.{content, parityOf}
 use Rattle.plan.specs.declared.Plan.{Plan}
-use Rattle.plan.specs.Plans.{atOf, held}
+use Rattle.plan.specs.Plans.{atOf, column, held}
 use Rattle.runs.specs.Run.{paint}
-use Rattle.runs.specs.Held.{heldRun, zeroByte}
+use Rattle.runs.specs.Held.{zeroByte}
 
 -- the two plans are of groups of one shape, and the new one misses nothing
 pub record Meets (P Q : Plan) : Type 0 where
@@ -21,17 +23,17 @@ pub record Meets (P Q : Plan) : Type 0 where
 abbrev pub always : ℕ → Bool
 always c = true
 
--- byte o of content c: of the data as they stand or rebuilt, and of the parities worked out from those
+-- byte o of content c: of a data unit as it stands in the old image or rebuilt, of a parity unit worked out from those
 unfoldable pub movedByte : Plan → List ℕ → ℕ → ℕ → ℕ
 movedByte P old c o = content (P .n) (held P old o) c
 
--- the first m data units of a group are copied to the units that begin at `at`
-unfoldable pub dataCopied : Plan → List ℕ → List ℕ → ℕ → List ℕ → List ℕ
-dataCopied P at old m new = paint always (λ c. getD at c 0) (P .u) (heldRun P old 0) m new
+-- the same by what stands in the new image, where the data are by then
+unfoldable pub contentByte : Plan → Plan → List ℕ → List ℕ → ℕ → ℕ → ℕ
+contentByte P Q old new c o = pick (ltb c (P .n)) (held P old o c) (parityOf (P .n) (column Q new o) (c - P .n))
 
--- all its contents are moved
-unfoldable pub contentsMoved : Plan → Plan → List ℕ → List ℕ → List ℕ
-contentsMoved P Q old new = paint always (atOf Q) (P .u) (movedByte P old) (P .n + P .k) new
+-- the first m contents are moved
+unfoldable pub contentsMoved : Plan → Plan → List ℕ → ℕ → List ℕ → List ℕ
+contentsMoved P Q old m new = paint always (atOf Q) (P .u) (movedByte P old) m new
 
 -- the first m of the units that begin at `starts` are zeros
 unfoldable pub unitsCleared : List ℕ → ℕ → ℕ → List ℕ → List ℕ

@@ -4,32 +4,39 @@ use plan::Plan;
 ghost use mathlib.Core.Path.{_≡_};
 ghost use Prim.Native.Nat.{ℕ, _+_, _<_, _≤_};
 ghost use lib.ListN.{length, getD};
-ghost use Rattle.plan.specs.Plans.{Fits, Apart};
-ghost use Rattle.group_move.specs.Moved.{Meets, dataCopied, contentsMoved, unitsCleared};
+ghost use Rattle.plan.specs.Plans.{atOf, Fits, Apart};
+ghost use Rattle.runs.specs.Run.{runSet};
+ghost use Rattle.updates.specs.Sources.{Begins};
+ghost use Rattle.group_move.specs.Moved.{Meets, contentByte, contentsMoved, unitsCleared};
 
-// The data units, from where the plan p finds them in the old image to where q has them in the new one.
-fn copy_data(p: Plan, q: Plan, old: &[u8], new: &mut [u8])
-    requires { ⌜ Fits p (length (now old)) × Fits q (length (now new)) × Meets p q ⌝ }
-    ensures { λ _. ⌜ now (new .exit) ≡ dataCopied p (q .at) (now (old .entry)) (p .n) (now (new .entry)) ⌝ }
+// Content c of the group, from where the plan p finds it in the old image to where q has it in the new one: a data unit as it stands or rebuilt, a
+// parity unit worked out from the data units, which are in the new image by then and begin at `starts`.
+fn move_content(p: Plan, q: Plan, starts: [usize; 16], old: &[u8], new: &mut [u8], c: usize)
+    requires { ⌜ Fits p (length (now old)) × Fits q (length (now new)) × Apart q × Meets p q × Begins q 0 starts × (c < p .n + p .k) ⌝ }
+    ensures { λ _. ⌜ now (new .exit) ≡ runSet (atOf q c) (p .u) (contentByte p q (now (old .entry)) (now (new .entry)) c) (now (new .entry)) ⌝ }
 {
     let n = p.n;
-    let u = p.u;
-    let at = q.at;
-    let mut c: usize = 0;
-    while c < n {
-        runs::read_run(p, old, c, 0, new, at[c], u);
-        c += 1;
+    if c < n {
+        let at = q.at;
+        runs::read_run(p, old, c, 0, new, at[c], p.u);
+        return;
     }
+    let nothing = [0u8; 1];
+    updates::put_parity(q, new, &nothing, starts, 0, q.u, c - n);
 }
 
-// The data units, and then the parities, from the data as they stand in the new image.
+// All contents of the group, one after another: the data units come first.
 pub fn move_contents(p: Plan, q: Plan, old: &[u8], new: &mut [u8])
     requires { ⌜ Fits p (length (now old)) × Fits q (length (now new)) × Apart q × Meets p q ⌝ }
-    ensures { λ _. ⌜ now (new .exit) ≡ contentsMoved p q (now (old .entry)) (now (new .entry)) ⌝ }
+    ensures { λ _. ⌜ now (new .exit) ≡ contentsMoved p q (now (old .entry)) (p .n + p .k) (now (new .entry)) ⌝ }
 {
-    let nothing = [0u8; 1];
-    copy_data(p, q, old, new);
-    updates::put_parities(q, new, &nothing, 0, q.u);
+    let m = p.n + p.k;
+    let starts = updates::image_starts(q, new.len(), 0);
+    let mut c: usize = 0;
+    while c < m {
+        move_content(p, q, starts, old, new, c);
+        c += 1;
+    }
 }
 
 // Zeros in `count` units of u bytes.

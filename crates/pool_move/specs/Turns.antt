@@ -64,7 +64,7 @@ module _ (z : Layout) (s : Shape) (g : ℕ) (P : Plan) (w : Survey) (old new : L
   contents-are = λ i. r .n-is i + r .k-is i
 
   -- the contents at their own places
-  moved-here : (new₁ : List ℕ) → new₁ ≡ contentsMoved P Q old new → new₁ ≡ paint always (unitStart z g) (z .u) (unitByte z P old) (contents z) new
+  moved-here : (new₁ : List ℕ) → new₁ ≡ contentsMoved P Q old (P .n + P .k) new → new₁ ≡ paint always (unitStart z g) (z .u) (unitByte z P old) (contents z) new
   unfolding contentsMoved unitByte paint
   moved-here new₁ e =
       e
@@ -87,7 +87,7 @@ module _ (z : Layout) (s : Shape) (g : ℕ) (P : Plan) (w : Survey) (old new : L
     λ i h. omega (arith, es i h, start-inside z (r .valid) g (r .group) (contents z + i) (omega arith), r .len-is, e),
   )
 
-  pub group-laid : (new₁ new₂ spares : List ℕ) → new₁ ≡ contentsMoved P Q old new → ((i : ℕ) → i < z .k → getD spares i 0 ≡ spot z g (contents z + i) 0)
+  pub group-laid : (new₁ new₂ spares : List ℕ) → new₁ ≡ contentsMoved P Q old (P .n + P .k) new → ((i : ℕ) → i < z .k → getD spares i 0 ≡ spot z g (contents z + i) 0)
       → new₂ ≡ unitsCleared spares (z .u) (z .k) new₁ → GroupLaid z g P old new new₂
   unfolding unitsCleared unitByte zeroByte
   group-laid new₁ new₂ spares e₁ es e₂ =

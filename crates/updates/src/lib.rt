@@ -28,7 +28,7 @@ fn within(a: usize, k: usize, x: usize) -> bool
 // ---- where the data lie
 
 // Where the n data units begin in the image, from unit offset lo on.
-fn image_starts(p: Plan, size: usize, lo: usize) -> [usize; 16]
+pub fn image_starts(p: Plan, size: usize, lo: usize) -> [usize; 16]
     requires { ⌜ Fits p size × (lo ≤ p .u) ⌝ }
     ensures { λ r. ⌜ Begins p lo r ⌝ }
 {
@@ -252,7 +252,7 @@ fn put_around(
 }
 
 // Parity i at its home, where it is present.
-fn put_parity(
+pub fn put_parity(
     p: Plan,
     image: &mut [u8],
     lost: &[u8],
@@ -280,8 +280,7 @@ fn put_parity(
     put_around(p, image, lost, starts, row, to, len);
 }
 
-// All parities that are present, each at its home.
-pub fn put_parities(p: Plan, image: &mut [u8], lost: &[u8], lo: usize, len: usize)
+fn put_parities(p: Plan, image: &mut [u8], lost: &[u8], lo: usize, len: usize)
     requires { ⌜ Fits p (length (now image)) × Apart p × (lo + len ≤ p .u) × Keeps p (length (now lost)) ⌝ }
     ensures { λ _. ⌜ now (image .exit) ≡ paint (standing p) (parityAt p lo) len (parityOver p (now (image .entry)) (now (lost .entry)) lo) (p .k) (now (image .entry)) ⌝ }
 {
