@@ -14,7 +14,8 @@ use Rattle.lists.specs.Tabulate.{at, length-tabulate, getD-tabulate, tabulated}
 use Rattle.numbers.specs.declared.Layout.{Layout}
 use Rattle.numbers.specs.Layouts.{Valid, width, allGroups, contents, capacity, imageLength}
 use Rattle.place.specs.Bytes.{spot, groupOf, unitIn, byteIn, offsetOf, unitHere, offsetHere}
-use Rattle.place.specs.ByteLaws.{spot-in, spot-here, group-there, unit-there′, offset-there, group-lt, unit-lt, byte-lt, offset-is, offset-lt, offset-group, offset-unit, offset-byte, group-here-lt, offset-here-lt}
+use Rattle.place.specs.ByteLaws.{spot-in, spot-here, group-there, unit-there′, offset-there, group-here-lt, offset-here-lt}
+use Rattle.place.specs.ByteLaws.{group-lt, unit-lt, byte-lt, offset-is, offset-lt, offset-group, offset-unit, offset-byte}
 use Rattle.parity.specs.Group.{rebuilt}
 use Rattle.parity.specs.Content.{content-data, content-cong}
 use Rattle.homes.specs.declared.Record.{Record}
