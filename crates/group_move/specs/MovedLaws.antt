@@ -14,7 +14,7 @@ use Rattle.parity.specs.Group.{parityOf}
 use Rattle.parity.specs.Content.{content-data, content-beyond, parity-cong}
 use Rattle.plan.specs.declared.Plan.{Plan}
 use Rattle.plan.specs.Plans.{atOf, missOf, Fits, Apart, column, held}
-use Rattle.runs.specs.Run.{runSet, runSet-ext, paint, paint-length, paint-turn, paint-hit}
+use Rattle.runs.specs.Run.{runSet, runSet-ext, paint, paint-turn, paint-hit}
 use Rattle.runs.specs.Held.{heldRun, zeroByte}
 use Rattle.updates.specs.Sources.{standing, parityAt, gathered, parityOver}
 use Rattle.group_move.specs.Moved.{Meets, always, movedByte, contentByte, contentsMoved, unitsCleared}

@@ -1,7 +1,6 @@
 -- A new pool that holds a file: what stands at each content's own place and in the spares, that it holds the file, what reads of it show, and that
 -- an image with zero spares and the parity of its own data is the new pool of the file that it shows.
-use mathlib.Core.Path.{_≡_, refl, sym, ap, _∙_, subst, subst⁻¹}
-use mathlib.Core.Bool.{false}
+use mathlib.Core.Path.{_≡_, refl, sym, ap, _∙_}
 use mathlib.Core.List.{List}
 use Prim.Native.Nat.{ℕ, _≤_, _<_}
 use native.Mathlib.Nat.{not-suc-le-zero}
@@ -9,7 +8,7 @@ use native.Mathlib.Omega.{arith}
 use borrow.Author.Tests.{lt-ltb, le-ltb}
 use lib.Dec.{ltb}
 use lib.ListN.{length}
-use Rattle.lists.specs.Pick.{pick, pick-true, pick-false, below-or-not}
+use Rattle.lists.specs.Pick.{pick-true, pick-false, below-or-not}
 use Rattle.lists.specs.Tabulate.{at, length-tabulate, getD-tabulate, tabulated}
 use Rattle.numbers.specs.declared.Layout.{Layout}
 use Rattle.numbers.specs.Layouts.{Valid, width, allGroups, contents, capacity, imageLength}

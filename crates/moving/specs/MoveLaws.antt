@@ -1,14 +1,14 @@
 -- A move: when it is accepted, what the new pool shows and holds, there and back, and what it does not depend on.
 use mathlib.Core.Path.{_≡_, refl, sym, ap, _∙_, subst, subst⁻¹}
 use mathlib.Core.Logic.{⊎-elim}
-use mathlib.Core.Bool.{Bool, true, false}
+use mathlib.Core.Bool.{true, false}
 use mathlib.Core.List.{List, [], _∷_}
-use Prim.Native.Nat.{ℕ, _+_, _-_, _≤_, _<_}
+use Prim.Native.Nat.{ℕ, _+_, _-_, _<_}
 use native.Mathlib.Omega.{arith}
 use borrow.Author.Tests.{le-leb, leb-true, eqb-true, eq-eqb}
 use lib.Dec.{eqb, leb}
 use lib.ListN.{length}
-use Rattle.lists.specs.Pick.{either-way, equal-or-not}
+use Rattle.lists.specs.Pick.{either-way}
 use Rattle.lists.specs.Tabulate.{at, tabulate, zeros, tabulated, tabulate-ext}
 use Rattle.lists.specs.Refusal.{refusalBy, grant-yes, grant-no, refusal-lowest, refusal-none, LowestThatApplies}
 use Rattle.numbers.specs.declared.Layout.{Layout}
@@ -19,10 +19,9 @@ use Rattle.place.specs.Bytes.{groupOf, unitIn, byteIn}
 use Rattle.place.specs.ByteLaws.{group-lt, unit-lt, byte-lt}
 use Rattle.parity.specs.Content.{content-data}
 use Rattle.homes.specs.declared.Record.{Record}
-use Rattle.homes.specs.Records.{recordGood}
 use Rattle.homes.specs.RecordLaws.{record-good, good-true}
 use Rattle.homes.specs.Missing.{missing}
-use Rattle.pool.specs.Contents.{stored, contentByte, fileByte, homeSpot}
+use Rattle.pool.specs.Contents.{stored, fileByte, homeSpot}
 use Rattle.pool.specs.Refusals.{rangeTests, rangeRefusal}
 use Rattle.pool.specs.Reading.{readOut}
 use Rattle.pool.specs.Asked.{Sound, sound-passes, range-asked}

@@ -4,7 +4,6 @@ use mathlib.Core.Bool.{true}
 use mathlib.Core.List.{List}
 use Prim.Native.Nat.{ℕ, _<_}
 use lib.Dec.{ltb}
-use lib.ListN.{length, getD}
 use Rattle.lists.specs.Pick.{pick}
 use Rattle.lists.specs.Lays.{Lays}
 use Rattle.numbers.specs.declared.Layout.{Layout}

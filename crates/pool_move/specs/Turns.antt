@@ -26,16 +26,15 @@ use Rattle.homes.specs.declared.Record.{Record}
 use Rattle.homes.specs.Records.{Good}
 use Rattle.homes.specs.MissingLaws.{home-own, unfailed-present}
 use Rattle.pool.specs.Asked.{Sound}
-use Rattle.pool.specs.Contents.{contentByte}
 use Rattle.pool.specs.Files.{encoded}
 use Rattle.plan.specs.declared.Plan.{Plan}
-use Rattle.plan.specs.Plans.{atOf, Fits, Apart, held}
+use Rattle.plan.specs.Plans.{atOf, Fits, held}
 use Rattle.runs.specs.Run.{paint, paint-after}
 use Rattle.runs.specs.Held.{zeroByte}
 use Rattle.runs.specs.Laying.{paint-lays}
 use Rattle.survey.specs.declared.Survey.{Survey}
 use Rattle.survey.specs.Surveyed.{Surveyed, Surveying, spot-plus, fits, apart, held-is}
-use Rattle.group_move.specs.Moved.{Meets, always, movedByte, contentsMoved, unitsCleared}
+use Rattle.group_move.specs.Moved.{always, movedByte, contentsMoved, unitsCleared}
 use Rattle.moving.specs.Fresh.{freshByte, freshImage}
 use Rattle.moving.specs.Moving.{shownFile}
 use Rattle.moving.specs.FreshLaws.{shown-content}

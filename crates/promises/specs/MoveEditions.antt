@@ -11,7 +11,7 @@ use borrow.Author.Tests.{le-leb}
 use lib.Dec.{eqb, leb}
 use lib.ListN.{length}
 use Rattle.lists.specs.Tabulate.{at, zeros}
-use Rattle.lists.specs.Refusal.{LowestThatApplies, refusalBy, refusal-none, refusal-lowest, grant}
+use Rattle.lists.specs.Refusal.{LowestThatApplies, refusalBy, refusal-none}
 use Rattle.numbers.specs.declared.Layout.{Layout}
 use Rattle.numbers.specs.Layouts.{Valid, allGroups, contents, allContents, capacity, imageLength}
 use Rattle.numbers.specs.Refused.{validb}
@@ -21,7 +21,6 @@ use Rattle.homes.specs.declared.Record.{Record}
 use Rattle.homes.specs.Records.{recordGood}
 use Rattle.homes.specs.Missing.{home, missing}
 use Rattle.pool.specs.Contents.{stored, contentByte, fileByte}
-use Rattle.pool.specs.Counting.{TrueCount}
 use Rattle.pool.specs.CountLaws.{unfailed-clear}
 use Rattle.pool.specs.Refusals.{rangeTests, rangeRefusal}
 use Rattle.pool.specs.Files.{encoded}
@@ -165,6 +164,29 @@ module _ (y : Layout) (valid : Valid y) (room : List ℕ) (three : length room �
   -- and the file is the old pool's, with the accepted writes laid on in order
   pub moved-file : (more : List Event) → run (otherEdition y) moved more .file ≡ laidOn (otherEdition y) (s .file) more
   moved-file more = laid (otherEdition y) (other-valid y valid) more moved moved-inside
+
+-- while nothing has failed there, and the spares are the zeros that they began with, it has the parity of its own data: so a move there and back gives its image
+-- again
+module _ (y : Layout) (valid : Valid y) (room : List ℕ) (three : length room ≡ 3) (es : List Event) (s : State) (reached : Reaches y (start y room) es s)
+    (unfailing : s .rec .k ≡ 0) (spares : (x : ℕ) → x < imageLength y → contents y ≤ unitHere y x .unit → at (s .img) x ≡ 0) where
+  kept-right : Inside y s
+  kept-right = subst⁻¹ (Inside y) (reaches-run y es (start y room) s reached) (ran y valid es (start y room) (started y valid room three))
+
+  empty-list : s .rec ≡ unfailed (s .rec .failed)
+  empty-list =
+      let q : s .rec .q ≡ 0 = omega (arith, kept-right .kept .good .mended, unfailing) in
+      let w : s .rec .waiting ≡ 0 = kept-right .counted ∙ unfailed-clear y (s .rec) unfailing in
+      λ i. record { failed = s .rec .failed; k = unfailing i; q = q i; waiting = w i }
+
+  pub reached-clean : Clean y (s .img)
+  reached-clean =
+      F.holds-clean y (s .rec .failed) (s .img) (s .file) (subst (λ (R : Record). Holds y R (s .img) (s .file)) empty-list (kept-right .holds)) spares
+
+  pub reached-there-and-back : (entries : List ℕ) (lent lent′ : ℕ) → lent ≡ imageLength y → lent′ ≡ imageLength y → (n n′ : ℕ) (new back : List ℕ)
+      → Moves y (s .rec) (s .img) lent n new → Moves (otherEdition y) (unfailed entries) new lent′ n′ back → (n ≡ 0) × (n′ ≡ 0) × (back ≡ s .img)
+  reached-there-and-back entries lent lent′ e e′ n n′ new back p =
+      there-and-back y valid (s .img) reached-clean (s .rec .failed) entries lent lent′ e e′ n n′ new back
+      (subst (λ (R : Record). Moves y R (s .img) lent n new) empty-list p)
 
 -- ---- what a move does not depend on: what the new image held, since the promise takes its length alone; a failed target's bytes and an unused spare's,
 

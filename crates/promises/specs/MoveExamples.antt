@@ -1,7 +1,6 @@
 -- Document 01's pool of three targets, "file bytes 41 42 (hex)", moved to edition 2 and back: whole, with a target failed, and after its repair.
 use mathlib.Core.Path.{_≡_, refl}
-use mathlib.Core.List.{List, [], _∷_}
-use Prim.Native.Nat.{ℕ}
+use mathlib.Core.List.{[], _∷_}
 use Rattle.lists.specs.Count.{count, sum}
 use Rattle.lists.specs.Search.{any, all, lowest}
 use Rattle.lists.specs.Tabulate.{tabulate}
