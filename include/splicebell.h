@@ -3,8 +3,8 @@
  *
  * Every call takes any numbers and any lengths, tests everything itself and answers the lowest refusal
  * number that applies; 0 is accepted. After a refusal an output buffer (read, listing, prepare, hex line,
- * a pool's text, an image filled from a text, a line's answer) is all zeros, returned numbers are 0 unless
- * stated, and nothing else that was lent has changed.
+ * a pool's text, an image that a text or a move was to fill, a line's answer) is all zeros, returned numbers
+ * are 0 unless stated, and nothing else that was lent has changed.
  *
  * What a caller owes, since C cannot be asked: a pointer with a length leads to that many elements, aligned
  * for their type, also where the length is 0 (not NULL); a buffer that a call may change overlaps no other
@@ -318,12 +318,12 @@ splicebell_repaired splicebell_repair_by(splicebell_layout y, splicebell_record 
 splicebell_drawn splicebell_draw_plan(splicebell_layout y, splicebell_record r, const uint8_t *image,
                                       size_t image_len, uint64_t *plan, size_t plan_len);
 
-/* Fills a second lent image with the same file in the other edition, N, K, P, U, T and cookie kept: data and
- * parity of the file that reads of the old pool show, missing contents rebuilt, each at its own place, and
- * spares of zeros. Its record is the empty one, all zeros, its layout y with edition 3 - y.edition. The old
- * image is only read; what the new one held does not matter. The two do not overlap.
- * Refusals: 1, 2 (either image's length: both have the same), 3. Refused: the new image is all zeros, whatever
- * its length. */
+/* Moves a pool to the other edition, N, K, P, U, T and cookie kept: y and r are the old pool's. The new image
+ * holds the file that reads of the old pool show, missing contents rebuilt, with the parity of that file, all
+ * at their own places, and zeros in its spares. So the new pool has layout y with edition 3 - y.edition, and
+ * the empty record, all zeros. The old image is only read; the new one has as many bytes, may hold any before,
+ * and does not overlap it.
+ * Refusals: 1, 2 (the length of either image), 3. Refused: the new image is all zeros, whatever its length. */
 uint64_t splicebell_move_edition(splicebell_layout y, splicebell_record r, const uint8_t *old_image,
                                  size_t old_image_len, uint8_t *new_image, size_t new_image_len);
 

@@ -29,7 +29,7 @@ pub struct Layout {
     pub cookie: u64,
     /// The edition of the permutations: 1, document 01's, those of every row that was installed while there was no
     /// other; 2, in which the generator is advanced four times more before the exchanges. An image does not tell
-    /// its edition.
+    /// its edition; [`Pool::move_edition`](crate::Pool::move_edition) makes one of the other.
     pub edition: u64,
 }
 
@@ -233,6 +233,25 @@ impl Layout {
     /// Fills the missing units of a group's (N+K)·U bytes from the N lowest others.
     pub fn rebuild(&self, missing: &[u64], group: &mut [u8]) -> Result<()> {
         answered(calls::rebuild(self.to_raw(), missing, group), ())
+    }
+
+    /// The same layout in the other edition: that of the pool which [`Pool::move_edition`](crate::Pool::move_edition)
+    /// makes. An edition that is neither 1 nor 2, which every call refuses, stays as it is.
+    ///
+    /// ```
+    /// use splicebell::Layout;
+    ///
+    /// let layout = Layout { n: 1, k: 1, p: 4, u: 4, t: 1, cookie: 0, edition: 1 };
+    /// assert_eq!(layout.other_edition(), Layout { edition: 2, ..layout });
+    /// assert_eq!(layout.other_edition().other_edition(), layout);
+    /// ```
+    pub fn other_edition(&self) -> Layout {
+        let edition = match self.edition {
+            1 => 2,
+            2 => 1,
+            none => none,
+        };
+        Layout { edition, ..*self }
     }
 
     /// P·L·T·(11+2U): bytes of the text that [`Pool::write_text`](crate::Pool::write_text) makes.

@@ -2,7 +2,7 @@
 //!
 //! One image holds one file, spread over P targets (drives) with N data, K parity and K spare units a group.
 //! Every call takes any numbers and any lengths, and answers a value or a [`Refusal`]. The library tests
-//! everything itself; nothing is tested on this side. So a refused read, look, listing, hex line, text or
+//! everything itself; nothing is tested on this side. So a refused read, look, listing, hex line, text, move or
 //! replayed line leaves its output all zeros here too, and a refused call changes nothing else that was lent.
 //!
 //! ```

@@ -325,6 +325,39 @@ impl<'a> Pool<'a> {
         Ok(r.waiting)
     }
 
+    /// Moves the file to the other edition: fills a second lent image, of the same length, and answers the pool on
+    /// it. That has the layout [`Layout::other_edition`] and an empty record, whatever has failed in this one; it
+    /// shows what this one shows, missing contents rebuilt, and its spares are zeros. What `image` held before does
+    /// not matter. Refused: `image` is all zeros, whatever its length. This pool is only read.
+    ///
+    /// ```
+    /// use splicebell::{Layout, Pool, Record, Refusal};
+    ///
+    /// let layout = Layout { n: 1, k: 1, p: 4, u: 4, t: 1, cookie: 0, edition: 1 };
+    /// let mut installed = [0; 48];
+    /// let mut pool = Pool::new(layout, &mut installed);
+    /// pool.write(0, b"a red bag")?;
+    /// pool.fail(3)?;
+    ///
+    /// let mut upgraded = [0; 48];
+    /// let moved = pool.move_edition(&mut upgraded)?;
+    /// assert_eq!(moved.layout(), Layout { edition: 2, ..layout });
+    /// assert_eq!(moved.record(), Record::default());
+    /// let mut seen = [0; 9];
+    /// moved.read(0, &mut seen)?;
+    /// assert_eq!(&seen, b"a red bag");
+    ///
+    /// let mut too_short = [9; 47];
+    /// assert_eq!(pool.move_edition(&mut too_short).unwrap_err(), Refusal::BadImageLength);
+    /// assert_eq!(too_short, [0; 47]);
+    /// # Ok::<(), Refusal>(())
+    /// ```
+    pub fn move_edition<'b>(&self, image: &'b mut [u8]) -> Result<Pool<'b>> {
+        let (y, r) = self.to_raw();
+        answered(calls::move_edition(y, r, self.image, image), ())?;
+        Ok(Pool::new(self.layout.other_edition(), image))
+    }
+
     /// What the service panel shows, as the record has it: nothing is counted, so it takes as long on any pool.
     ///
     /// ```

@@ -102,6 +102,38 @@ fn an_image_taken_for_the_other_edition_shows_other_bytes() -> Result<(), Refusa
     Ok(())
 }
 
+/// Where nothing has failed the first image comes back, else that of the file that was saved.
+#[test]
+fn a_pool_is_moved_there_and_back() -> Result<(), Refusal> {
+    for (layout, other) in [(FIRST, SECOND), (SECOND, FIRST)] {
+        for lost in [None, Some(0), Some(3), Some(6)] {
+            let mut image = written(layout)?;
+            let mut pool = Pool::new(layout, &mut image);
+            if let Some(target) = lost {
+                pool.fail(target)?;
+                let drive = IMAGE_LENGTH / layout.p as usize;
+                pool.image_mut()[target as usize * drive..][..drive].fill(0xee);
+            }
+            let (mut there, mut back) = ([9; IMAGE_LENGTH], [9; IMAGE_LENGTH]);
+            let moved = pool.move_edition(&mut there)?;
+            assert_eq!((moved.layout(), shown(&moved)?), (other, photograph()));
+            assert_eq!(moved.image(), written(other)?);
+            let moved_back = moved.move_edition(&mut back)?;
+            assert_eq!(moved_back.layout(), layout);
+            assert_eq!(moved_back.image(), written(layout)?);
+        }
+    }
+    Ok(())
+}
+
+#[test]
+fn the_other_edition_is_another_layout_where_there_is_one() {
+    assert_eq!((FIRST.other_edition(), SECOND.other_edition()), (SECOND, FIRST));
+    for layout in of_no_edition() {
+        assert_eq!(layout.other_edition(), layout);
+    }
+}
+
 /// Layouts whose edition alone is wrong; that of the first was never set.
 fn of_no_edition() -> [Layout; 3] {
     [0, 3, u64::MAX].map(|edition| Layout { edition, ..FIRST })
@@ -136,7 +168,7 @@ fn another_edition_is_refused_by_every_call_of_a_pool() -> Result<(), Refusal> {
         let mut image = written(FIRST)?;
         let before = image.clone();
         let mut pool = Pool::new(layout, &mut image);
-        let (mut outputs, mut plan) = ([[9; 3]; 4], [9; 4]);
+        let (mut outputs, mut plan, mut into) = ([[9; 3]; 4], [9; 4], [9; IMAGE_LENGTH]);
         let [read, scratch, line, text] = &mut outputs;
         let refused = [
             pool.read(0, read).err(),
@@ -150,11 +182,12 @@ fn another_edition_is_refused_by_every_call_of_a_pool() -> Result<(), Refusal> {
             pool.check_plan(&[]).err(),
             pool.repair_by(&[]).err(),
             pool.draw_plan(&mut plan).err(),
+            pool.move_edition(&mut into).err(),
             pool.panel().err(),
             pool.audit().err(),
         ];
-        assert_eq!(refused, [Some(Refusal::BadLayout); 13]);
-        assert_eq!((outputs, plan), ([[0; 3]; 4], [9; 4]));
+        assert_eq!(refused, [Some(Refusal::BadLayout); 14]);
+        assert_eq!((outputs, plan, into), ([[0; 3]; 4], [9; 4], [0; IMAGE_LENGTH]));
         assert_eq!((pool.image(), pool.record()), (&before[..], Default::default()));
     }
     Ok(())

@@ -140,6 +140,9 @@ fn refused_calls_leave_zeros_in_outputs_and_the_rest_alone() {
     out.fill(8);
     assert_eq!(pool.look(0, 0, &mut out), Err(Refusal::BadRecord));
     assert_eq!(out, [0; 5]);
+    out.fill(8);
+    assert_eq!(pool.move_edition(&mut out).unwrap_err(), Refusal::BadImageLength);
+    assert_eq!(out, [0; 5]);
     assert_eq!(pool.write(0, &[2]), Err(Refusal::BadRecord));
     assert_eq!(pool.repair(), Err(Refusal::BadRecord));
     assert_eq!(pool.fail(6), Err(Refusal::BadRecord));
@@ -242,6 +245,10 @@ fn a_false_count_changes_no_other_answer() -> Result<(), Refusal> {
         let (mut shown, mut same) = ([0; 20], [0; 20]);
         assert_eq!(falsely.read(1, &mut shown), truly.read(1, &mut same));
         assert_eq!(shown, same);
+        let (mut moved, mut same) = (blank_image(), blank_image());
+        falsely.move_edition(&mut moved)?;
+        truly.move_edition(&mut same)?;
+        assert_eq!(moved, same);
         assert_eq!(falsely.record().waiting, count);
         assert_eq!(falsely.repair(), truly.repair());
         assert_eq!(falsely.record(), truly.record());
@@ -263,6 +270,9 @@ fn a_count_above_all_contents_is_a_bad_record() {
         out.fill(8);
         assert_eq!(pool.look(0, 0, &mut out), Err(Refusal::BadRecord));
         assert_eq!(out, [0; 3]);
+        let mut moved = vec![8; pool.image().len()];
+        assert_eq!(pool.move_edition(&mut moved).unwrap_err(), Refusal::BadRecord);
+        assert_eq!(moved, blank_image());
         assert_eq!(pool.write(0, &[2]), Err(Refusal::BadRecord));
         let listed = pool.write_pieces(&[(0, &[2])]);
         assert_eq!(listed.map_err(Refusal::from), Err(Refusal::BadRecord));
@@ -624,6 +634,99 @@ fn a_bad_pool_is_refused_before_its_plan() {
     }
 }
 
+fn whole_file(pool: &Pool) -> Result<Vec<u8>, Refusal> {
+    let mut file = vec![0; LAYOUT.measure()?.capacity as usize];
+    pool.read(0, &mut file)?;
+    Ok(file)
+}
+
+/// Any bytes make an image; these have not the parity of their data, and something in their spares.
+fn of_any_bytes(failed: &[u64]) -> Result<(Vec<u8>, Record), Refusal> {
+    let mut image = photograph(blank_image().len());
+    let mut pool = Pool::new(LAYOUT, &mut image);
+    for target in failed {
+        pool.fail(*target)?;
+    }
+    let record = pool.record();
+    Ok((image, record))
+}
+
+/// The new image is that of the file written into zeros: so also parity and spares are what they must be.
+#[test]
+fn a_moved_pool_is_what_its_file_makes_of_zeros() -> Result<(), Refusal> {
+    let olds = [
+        with_dead_drives()?,
+        with_a_dead_drive_after_a_repair()?,
+        of_any_bytes(&[])?,
+        of_any_bytes(&[5])?,
+    ];
+    for (mut image, record) in olds {
+        let before = image.clone();
+        let pool = Pool::with_record(LAYOUT, record, &mut image);
+        let file = whole_file(&pool)?;
+        let mut into = vec![9; before.len()];
+        let moved = pool.move_edition(&mut into)?;
+        assert_eq!(moved.layout(), Layout { edition: 2, ..LAYOUT });
+        assert_eq!(moved.record(), Record::default());
+        assert_eq!(whole_file(&moved)?, file);
+        let mut afresh = blank_image();
+        Pool::new(moved.layout(), &mut afresh).write(0, &file)?;
+        assert_eq!(moved.image(), afresh);
+        assert_eq!(pool.image(), before);
+    }
+    Ok(())
+}
+
+/// Nothing has failed in the new pool, so it may lose K drives again.
+#[test]
+fn a_moved_pool_goes_on_and_outlives_drives_again() -> Result<(), Refusal> {
+    let (mut image, record) = with_dead_drives()?;
+    let pool = Pool::with_record(LAYOUT, record, &mut image);
+    let mut file = whole_file(&pool)?;
+    let mut into = blank_image();
+    let mut moved = pool.move_edition(&mut into)?;
+    for target in [5, 0] {
+        moved.fail(target)?;
+        scribble(&mut moved, target);
+    }
+    moved.write(4, b"again")?;
+    file[4..9].copy_from_slice(b"again");
+    assert_eq!(whole_file(&moved)?, file);
+    moved.audit()?;
+    assert!(moved.repair()? > 0);
+    assert_eq!(whole_file(&moved)?, file);
+    Ok(())
+}
+
+/// What a move is refused with, from an image and into one of these lengths.
+fn move_refused(layout: Layout, record: Record, old: usize, new: usize) -> Refusal {
+    let (mut image, mut into) = (vec![1; old], vec![9; new]);
+    let pool = Pool::with_record(layout, record, &mut image);
+    let refusal = pool.move_edition(&mut into).expect_err("the move is refused");
+    assert_eq!((image, into), (vec![1; old], vec![0; new]));
+    refusal
+}
+
+#[test]
+fn a_refused_move_leaves_zeros_and_the_old_image_alone() {
+    let right = blank_image().len();
+    let unfailed = Record { q: 1, ..Record::default() };
+    let twice = Record { failed: [4; 3], k: 2, q: 1, waiting: 5 };
+    let without_end = Record { k: u64::MAX, ..Record::default() };
+    let bad = Layout { p: 65, ..LAYOUT };
+    for (old, new) in [(right, right), (0, right), (right, 0), (right + 1, right - 1)] {
+        assert_eq!(move_refused(bad, unfailed, old, new), Refusal::BadLayout);
+    }
+    for wrong in [0, right - 1, right + 1, 2 * right] {
+        for (old, new) in [(wrong, right), (right, wrong), (wrong, wrong)] {
+            assert_eq!(move_refused(LAYOUT, unfailed, old, new), Refusal::BadImageLength);
+        }
+    }
+    for record in [unfailed, twice, without_end, waiting(ALL_CONTENTS + 1)] {
+        assert_eq!(move_refused(LAYOUT, record, right, right), Refusal::BadRecord);
+    }
+}
+
 #[test]
 fn a_replayed_day_leaves_what_its_calls_leave() -> Result<(), Refusal> {
     let day = "02 02 07 0003 000002 000000000000000b\n\
@@ -867,6 +970,8 @@ fn a_thread_of_64_kib_is_enough() {
             assert_eq!(answer[0], b'0');
         }
         pool.audit()?;
+        let mut upgraded = vec![0; pool.image().len()];
+        pool.move_edition(&mut upgraded)?;
         pool.repair()?;
         pool.read(1, &mut file)
     });

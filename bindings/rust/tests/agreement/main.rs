@@ -198,6 +198,6 @@ fn with_common_names(mut functions: Functions) -> Functions {
 
 #[test]
 fn the_sources_were_read() {
-    assert_eq!(c_functions(&file(HEADER)).len(), 31);
+    assert_eq!(c_functions(&file(HEADER)).len(), 32);
     assert_eq!(c_structs(&file(HEADER)).len(), 28);
 }
