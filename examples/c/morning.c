@@ -20,6 +20,7 @@ enum { SECOND_AT = 24, WEIGHT_AT = 48, TAG_AT = 56, TOO_FAR = 76, LOST = 2 };
 enum { FRAMES = 4, ENTRY = 2 + 2 }; /* of a drive; the numbers of an entry of a plan */
 
 typedef struct pool {
+    splicebell_layout layout;
     splicebell_record record;
     uint8_t *image;
     size_t length;
@@ -41,20 +42,20 @@ static void accepted(uint64_t refusal) {
 
 static void store(pool p, uint64_t at, const char *photograph) {
     const uint8_t *bytes = (const uint8_t *)photograph;
-    accepted(splicebell_write(row, p.record, p.image, p.length, at, bytes, strlen(photograph)));
+    accepted(splicebell_write(p.layout, p.record, p.image, p.length, at, bytes, strlen(photograph)));
     printf("A kiosk stores \"%s\" at %" PRIu64 ".\n", photograph, at);
 }
 
 static void show(pool p, uint64_t at, size_t bytes) {
     char photograph[64] = {0};
-    accepted(splicebell_read(row, p.record, p.image, p.length, at, (uint8_t *)photograph, bytes));
+    accepted(splicebell_read(p.layout, p.record, p.image, p.length, at, (uint8_t *)photograph, bytes));
     printf("The claims desk reads \"%s\" at %" PRIu64 ".\n", photograph, at);
 }
 
 /* What the service panel shows, once an audit has found its count true. */
 static void panel(pool p) {
-    accepted(splicebell_audit(row, p.record, p.image, p.length));
-    splicebell_counts shown = splicebell_panel(row, p.record, p.image, p.length);
+    accepted(splicebell_audit(p.layout, p.record, p.image, p.length));
+    splicebell_counts shown = splicebell_panel(p.layout, p.record, p.image, p.length);
     accepted(shown.refusal);
     printf("The service panel shows units that wait for repair: %" PRIu64 ", drives failed: %" PRIu64
            ", repaired: %" PRIu64 ".\n", shown.waiting, shown.failed, shown.repaired);
@@ -62,9 +63,9 @@ static void panel(pool p) {
 
 static void dump(pool p, uint64_t frames) {
     uint8_t line[11 + 2 * 8];
-    for (uint64_t target = 0; target < row.p; target++) {
+    for (uint64_t target = 0; target < p.layout.p; target++) {
         for (uint64_t frame = 0; frame < frames; frame++) {
-            accepted(splicebell_hex_line(row, p.image, p.length, target, frame, line, sizeof line));
+            accepted(splicebell_hex_line(p.layout, p.image, p.length, target, frame, line, sizeof line));
             fwrite(line, 1, sizeof line, stdout);
         }
     }
@@ -85,7 +86,7 @@ static splicebell_list_written store_session(pool p, uint64_t tag_at) {
         {SECOND_AT, strlen(second)}, {WEIGHT_AT, strlen(weight)}, {tag_at, strlen(tag)}};
     char bytes[64];
     int length = snprintf(bytes, sizeof bytes, "%s%s%s", second, weight, tag);
-    return splicebell_write_list(row, p.record, p.image, p.length, ranges, 3, (const uint8_t *)bytes,
+    return splicebell_write_list(p.layout, p.record, p.image, p.length, ranges, 3, (const uint8_t *)bytes,
                                  (size_t)length);
 }
 
@@ -93,7 +94,7 @@ static splicebell_list_written store_session(pool p, uint64_t tag_at) {
 static void end_session(pool p) {
     splicebell_list_written refused = store_session(p, TOO_FAR);
     uint8_t photograph[sizeof second - 1];
-    accepted(splicebell_read(row, p.record, p.image, p.length, SECOND_AT, photograph, sizeof photograph));
+    accepted(splicebell_read(p.layout, p.record, p.image, p.length, SECOND_AT, photograph, sizeof photograph));
     printf("A session with its tag at %d is refused with %" PRIu64 " at range %" PRIu64 ", and %s of it is stored.\n",
            TOO_FAR, refused.refusal, refused.range,
            all_zeros(photograph, sizeof photograph) ? "nothing" : "something");
@@ -105,7 +106,7 @@ static void end_session(pool p) {
 /* The row controller takes the groups in an order of its own: our plan with its last entry first. */
 static plan propose(pool p) {
     plan ours, other = {.length = 0};
-    splicebell_drawn drawn = splicebell_draw_plan(row, p.record, p.image, p.length, ours.numbers, FRAMES * ENTRY);
+    splicebell_drawn drawn = splicebell_draw_plan(p.layout, p.record, p.image, p.length, ours.numbers, FRAMES * ENTRY);
     accepted(drawn.refusal);
     printf("The row controller plans the repair:\n");
     for (uint64_t left = drawn.length; left > 0; left -= ENTRY) {
@@ -123,16 +124,16 @@ static splicebell_repaired repair_by(pool p, plan proposed) {
     plan wrong = proposed;
     wrong.numbers[2] = wrong.numbers[1];
     printf("With the lost unit as its own source, that is refused with %" PRIu64 ".\n",
-           splicebell_check_plan(row, p.record, p.image, p.length, wrong.numbers, wrong.length));
-    accepted(splicebell_check_plan(row, p.record, p.image, p.length, proposed.numbers, proposed.length));
+           splicebell_check_plan(p.layout, p.record, p.image, p.length, wrong.numbers, wrong.length));
+    accepted(splicebell_check_plan(p.layout, p.record, p.image, p.length, proposed.numbers, proposed.length));
     uint8_t *copy = malloc(p.length);
     if (copy == NULL) {
         exit(EXIT_FAILURE);
     }
     memcpy(copy, p.image, p.length);
-    accepted(splicebell_repair(row, p.record, copy, p.length).refusal);
+    accepted(splicebell_repair(p.layout, p.record, copy, p.length).refusal);
     splicebell_repaired repaired =
-        splicebell_repair_by(row, p.record, p.image, p.length, proposed.numbers, proposed.length);
+        splicebell_repair_by(p.layout, p.record, p.image, p.length, proposed.numbers, proposed.length);
     printf("As it is, it leaves %s repair without a plan.\n",
            memcmp(copy, p.image, p.length) == 0 ? "the same bytes as" : "other bytes than");
     free(copy);
@@ -141,28 +142,59 @@ static splicebell_repaired repair_by(pool p, plan proposed) {
 
 /* Field staff mail the row as text; the desk takes it back, and refuses a copy that was spoilt. */
 static void mail(pool p, uint64_t frames) {
-    size_t line = 11 + 2 * row.u, lines = row.p * frames, length = lines * line;
+    size_t line = 11 + 2 * p.layout.u, lines = p.layout.p * frames, length = lines * line;
     uint8_t *text = malloc(length), *copy = malloc(p.length);
     if (text == NULL || copy == NULL) {
         exit(EXIT_FAILURE);
     }
-    accepted(splicebell_write_text(row, p.image, p.length, text, length));
+    accepted(splicebell_write_text(p.layout, p.image, p.length, text, length));
     printf("The row is mailed as a text of %zu lines.\n", lines);
-    accepted(splicebell_read_text(row, text, length, copy, p.length).refusal);
+    accepted(splicebell_read_text(p.layout, text, length, copy, p.length).refusal);
     printf("The copy read from it is %s.\n", memcmp(copy, p.image, p.length) == 0 ? "the same" : "another");
 
     text[6 * line + 2] = '\t';
-    splicebell_text_read wrong = splicebell_read_text(row, text, length, copy, p.length);
+    splicebell_text_read wrong = splicebell_read_text(p.layout, text, length, copy, p.length);
     printf("With a tab in it, it is refused with %" PRIu64 " at line %" PRIu64 ", and the copy %s.\n", wrong.refusal,
            wrong.line, all_zeros(copy, p.length) ? "is zeros" : "still holds bytes");
     free(copy);
     free(text);
 }
 
+/* The same file in the other edition, in an image of its own; nothing has failed there. */
+static pool moved(pool p, uint8_t *image) {
+    pool other = {.layout = p.layout, .image = image, .length = p.length};
+    other.layout.edition = 3 - p.layout.edition;
+    accepted(splicebell_move_edition(p.layout, p.record, p.image, p.length, image, p.length));
+    return other;
+}
+
+/* The row is upgraded in a second image, and from there moved back and forth. */
+static void upgrade(pool p) {
+    uint8_t *images = malloc(3 * p.length);
+    if (images == NULL) {
+        exit(EXIT_FAILURE);
+    }
+    pool upgraded = moved(p, images);
+    printf("The row is upgraded to edition %" PRIu64 ", in a second image.\n", upgraded.layout.edition);
+    panel(upgraded);
+    show(upgraded, 0, strlen(first));
+    show(upgraded, SECOND_AT, strlen(second));
+
+    pool back = moved(upgraded, images + p.length), again = moved(back, images + 2 * p.length);
+    printf("Moved back to edition %" PRIu64 ", and to edition %" PRIu64 " again, it has %s bytes.\n",
+           back.layout.edition, again.layout.edition,
+           memcmp(again.image, upgraded.image, p.length) == 0 ? "the same" : "other");
+    size_t too_short = p.length - 1;
+    uint64_t refusal = splicebell_move_edition(p.layout, p.record, p.image, p.length, images, too_short);
+    printf("Into an image that is a byte too short a move is refused with %" PRIu64 ", and that image %s.\n", refusal,
+           all_zeros(images, too_short) ? "is zeros" : "still holds bytes");
+    free(images);
+}
+
 int main(void) {
     splicebell_measured measured = splicebell_measure(row);
     accepted(measured.refusal);
-    pool p = {.image = calloc(measured.numbers.image, 1), .length = measured.numbers.image};
+    pool p = {.layout = row, .image = calloc(measured.numbers.image, 1), .length = measured.numbers.image};
     if (p.image == NULL) {
         return EXIT_FAILURE;
     }
@@ -170,7 +202,7 @@ int main(void) {
     store(p, 0, first);
     end_session(p);
 
-    splicebell_failed failed = splicebell_fail(row, p.record, p.image, p.length, LOST);
+    splicebell_failed failed = splicebell_fail(p.layout, p.record, p.image, p.length, LOST);
     accepted(failed.refusal);
     p.record = failed.record;
     memset(p.image + LOST * (p.length / row.p), 0xff, p.length / row.p);
@@ -190,6 +222,7 @@ int main(void) {
     printf("The drives now, each line a drive, a frame and its bytes:\n");
     dump(p, measured.numbers.frames);
     mail(p, measured.numbers.frames);
+    upgrade(p);
     free(p.image);
     return EXIT_SUCCESS;
 }

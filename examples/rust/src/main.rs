@@ -120,6 +120,31 @@ fn mail(pool: &Pool) -> Result<()> {
     Ok(())
 }
 
+/// The row is upgraded in a second image, where nothing has failed, and from there moved back and forth.
+fn upgrade(pool: &Pool) -> Result<()> {
+    let length = pool.image().len();
+    let [mut second, mut third, mut fourth] = [(); 3].map(|()| vec![0; length]);
+    let upgraded = pool.move_edition(&mut second)?;
+    println!("The row is upgraded to edition {}, in a second image.", upgraded.layout().edition);
+    panel(&upgraded)?;
+    show(&upgraded, 0, FIRST.len())?;
+    show(&upgraded, SECOND_AT, SECOND.len())?;
+
+    let back = upgraded.move_edition(&mut third)?;
+    let again = back.move_edition(&mut fourth)?;
+    let has = if again.image() == upgraded.image() { "the same" } else { "other" };
+    let (old, new) = (back.layout().edition, again.layout().edition);
+    println!("Moved back to edition {old}, and to edition {new} again, it has {has} bytes.");
+    let too_short = &mut second[1..];
+    let refusal = pool.move_edition(too_short).expect_err("a byte is missing").number();
+    let left =
+        if too_short.iter().all(|byte| *byte == 0) { "is zeros" } else { "still holds bytes" };
+    println!(
+        "Into an image that is a byte too short a move is refused with {refusal}, and that image {left}."
+    );
+    Ok(())
+}
+
 fn main() -> Result<()> {
     let numbers = ROW.measure()?;
     let mut image = vec![0; numbers.image as usize];
@@ -145,5 +170,6 @@ fn main() -> Result<()> {
     show(&pool, SECOND_AT, SECOND.len())?;
     println!("The drives now, each line a drive, a frame and its bytes:");
     dump(&pool, numbers.frames)?;
-    mail(&pool)
+    mail(&pool)?;
+    upgrade(&pool)
 }
