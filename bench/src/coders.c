@@ -3,6 +3,8 @@
 #include "before.h"
 #include "twin.h"
 
+#include <stdlib.h>
+
 static uint8_t product(uint8_t a, uint8_t b)
 {
     uint8_t sum = 0;
@@ -96,6 +98,38 @@ static const struct coder before = {"before", NULL, before_encodes, before_rebui
 
 const struct coder ours = {"ours", NULL, our_encode, our_rebuild};
 const struct coder twin = {"Rust twin", NULL, twin_encodes, twin_rebuilds};
+
+struct span span_of(uint64_t n, uint64_t k, uint64_t u, size_t groups, size_t lost)
+{
+    struct span s = {.group = group_of(n, k, u, lost), .groups = groups};
+    s.bytes = room(groups * s.group.length);
+    fill(s.bytes, groups * s.group.length, 3);
+    free(s.group.buf);
+    return s;
+}
+
+void span_free(struct span *s)
+{
+    free(s->bytes);
+}
+
+static void over_span(struct span *s, work work)
+{
+    for (size_t i = 0; i < s->groups; i++) {
+        s->group.buf = s->bytes + i * s->group.length;
+        work(&s->group);
+    }
+}
+
+void encode_span(void *context)
+{
+    over_span(context, our_encode);
+}
+
+void rebuild_span(void *context)
+{
+    over_span(context, our_rebuild);
+}
 
 const struct coder *const coders[] = {
     &ours,

@@ -36,4 +36,18 @@ void sources_of(const struct group *g, unsigned sources[MOST_N]);
 
 struct group group_of(uint64_t n, uint64_t k, uint64_t u, size_t lost);
 
+/* Many groups in one buffer, so that encode and rebuild stream through memory as the calls on a large pool do. */
+struct span {
+    struct group group;
+    uint8_t *bytes;
+    size_t groups;
+};
+
+struct span span_of(uint64_t n, uint64_t k, uint64_t u, size_t groups, size_t lost);
+void span_free(struct span *s);
+
+/* Ours, over all groups of a span, which is the context. */
+void encode_span(void *context);
+void rebuild_span(void *context);
+
 #endif

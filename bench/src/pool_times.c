@@ -3,42 +3,12 @@
 #include "pools.h"
 
 #include <stdio.h>
-#include <stdlib.h>
 #include <string.h>
 
-/* Encode and rebuild over group buffers of the same total size as the pool, so that both stream through memory. */
-struct span {
-    struct group group;
-    uint8_t *bytes;
-    size_t groups;
-};
-
-static struct span span_of(const struct pool *p, size_t lost)
+/* Group buffers of the same total size as the pool. */
+static struct span span_like(const struct pool *p, size_t lost)
 {
-    struct span s = {.group = group_of(p->y.n, p->y.k, p->y.u, lost)};
-    s.groups = p->m.image / s.group.length;
-    s.bytes = room(s.groups * s.group.length);
-    fill(s.bytes, s.groups * s.group.length, 3);
-    free(s.group.buf);
-    return s;
-}
-
-static void over_span(struct span *s, work work)
-{
-    for (size_t i = 0; i < s->groups; i++) {
-        s->group.buf = s->bytes + i * s->group.length;
-        work(&s->group);
-    }
-}
-
-static void encode_span(void *context)
-{
-    over_span(context, ours.encode);
-}
-
-static void rebuild_span(void *context)
-{
-    over_span(context, ours.rebuild);
+    return span_of(p->y.n, p->y.k, p->y.u, p->m.image / ((p->y.n + p->y.k) * p->y.u), lost);
 }
 
 /* Ours and the twin must leave the same image and read the same bytes, before and after failures and repair. */
@@ -101,17 +71,17 @@ static double seconds_of(work work, void *context)
 
 static double encode_rate(const struct pool *p)
 {
-    struct span s = span_of(p, 1);
+    struct span s = span_like(p, 1);
     double seconds = seconds_of(encode_span, &s);
-    free(s.bytes);
+    span_free(&s);
     return rate(s.groups * (double)(p->y.n * p->y.u), seconds);
 }
 
 static double rebuild_rate(const struct pool *p, size_t lost)
 {
-    struct span s = span_of(p, lost);
+    struct span s = span_like(p, lost);
     double seconds = seconds_of(rebuild_span, &s);
-    free(s.bytes);
+    span_free(&s);
     return rate(s.groups * (double)(lost * p->y.u), seconds);
 }
 

@@ -9,10 +9,12 @@
  *     text:write:4096:ours            bytes of a unit, of a pool of 20 tiles
  *     count:panel:8+2:24:20:ours      a call about the count of missing units: code, targets, tiles
  *     plan:repair:8+2:20:1:ours       a call about repair by a plan, on 24 targets: code, tiles, failures
+ *     move:1 to 2:8+2:4096:20:1:ours  a move between editions, on 24 targets: code, bytes of a unit, tiles, failures
  */
 #include "catalogue.h"
 #include "coders.h"
 #include "counts.h"
+#include "moves.h"
 #include "plans.h"
 #include "products.h"
 #include "texts.h"
@@ -132,6 +134,19 @@ static int work_on_plan(const char *name, long repeats)
     return repeat(call->work, &x, repeats, p.r.waiting * (double)p.y.u, 1);
 }
 
+static int work_on_move(const char *name, long repeats)
+{
+    char who[20];
+    int from, to, n, k, unit, tiles, failed;
+    must(sscanf(name, "move:%d to %d:%d+%d:%d:%d:%d:%19[^:]", &from, &to, &n, &k, &unit, &tiles, &failed, who) == 8,
+         name);
+    struct pool p = pool_of(n, k, 24, unit, tiles);
+    if (from == 2)
+        p = in_other_edition(&p);
+    struct move x = move_of(&p, failed, strcmp(who, "ours") == 0 ? &our_move : &twin_move, room(p.m.image));
+    return repeat(move_whole_pool, &x, repeats, p.m.capacity, 1);
+}
+
 static int work_on_pairs(const char *name, long repeats)
 {
     static struct pairs p;
@@ -159,6 +174,8 @@ int do_work(const char *name, long repeats)
         return work_on_count(name, repeats);
     if (strncmp(name, "plan:", 5) == 0)
         return work_on_plan(name, repeats);
+    if (strncmp(name, "move:", 5) == 0)
+        return work_on_move(name, repeats);
     return work_on_group(name, repeats);
 }
 
@@ -222,6 +239,18 @@ static void list_plans(void)
         }
 }
 
+/* Over pools of 2 MB. */
+static void list_moves(void)
+{
+    static const char *const pools[] = {"8+2:4096:20", "8+2:512:160"}, *const ways[] = {"1 to 2", "2 to 1"};
+    for (size_t i = 0; i < sizeof pools / sizeof *pools; i++)
+        for (int failed = 0; failed <= 2; failed += 2)
+            for (size_t j = 0; j < sizeof ways / sizeof *ways; j++) {
+                printf("move:%s:%s:%d:ours\n", ways[j], pools[i], failed);
+                printf("move:%s:%s:%d:Rust twin\n", ways[j], pools[i], failed);
+            }
+}
+
 int list_works(void)
 {
     printf("product:ours\nproduct:shifting\nproduct:Rust twin\n");
@@ -233,5 +262,6 @@ int list_works(void)
         printf("text:write:%d:ours\ntext:write:%d:Rust twin\ntext:read:%d:ours\ntext:read:%d:Rust twin\n", u, u, u, u);
     list_counts();
     list_plans();
+    list_moves();
     return 0;
 }

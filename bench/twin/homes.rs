@@ -77,6 +77,12 @@ impl<'a> Tiles<'a> {
         self.starts(&places, &homes)
     }
 
+    /// Where all units of a group begin, its spares too.
+    pub fn unit_starts(&mut self, group: u64) -> Vec<usize> {
+        let places = self.places(group);
+        places.into_iter().map(|place| self.shape.image_byte(place)).collect()
+    }
+
     /// The unit that is each content's home once the listed targets have failed.
     fn homes(&self, places: &[(u64, u64)], failed: &[u64]) -> Vec<usize> {
         let contents = (self.shape.layout.n + self.shape.layout.k) as usize;

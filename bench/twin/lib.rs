@@ -5,6 +5,7 @@
 mod catalogue;
 mod code;
 mod count;
+mod edition;
 mod field;
 mod homes;
 mod layout;
@@ -254,6 +255,23 @@ pub unsafe extern "C" fn twin_draw_plan(
         Some(length) => Drawn { refusal: 0, length: length as u64 },
         None => Drawn { refusal: 5, length: 0 },
     }
+}
+
+/// # Safety
+/// The pointers lead to as many bytes as their lengths say; nothing else touches `new_image`.
+#[no_mangle]
+pub unsafe extern "C" fn twin_move_edition(
+    y: Layout,
+    r: Record,
+    old_image: *const u8,
+    old_length: usize,
+    new_image: *mut u8,
+    new_length: usize,
+) -> u64 {
+    let (old, new) =
+        (from_raw_parts(old_image, old_length), from_raw_parts_mut(new_image, new_length));
+    edition::move_edition(y, &r, old, new);
+    0
 }
 
 /// # Safety

@@ -8,7 +8,7 @@ use std::borrow::Cow;
 use std::ops::Range;
 
 /// What the contents of a group hold at a run of unit offsets, None where a content is missing.
-fn held<'a>(image: &'a [u8], group: &Group, run: &Range<usize>) -> Vec<Option<&'a [u8]>> {
+pub fn held<'a>(image: &'a [u8], group: &Group, run: &Range<usize>) -> Vec<Option<&'a [u8]>> {
     let at = |c: usize| &image[group.starts[c] + run.start..group.starts[c] + run.end];
     (0..group.starts.len()).map(|c| if group.missing[c] { None } else { Some(at(c)) }).collect()
 }
