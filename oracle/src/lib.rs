@@ -15,6 +15,7 @@ pub mod place;
 pub mod pool;
 pub mod pool_count;
 pub mod pool_list;
+pub mod pool_move;
 pub mod pool_plan;
 pub mod pool_text;
 pub mod programs;

@@ -1,6 +1,6 @@
 //! Document 01's checked examples, starred or not, and of document 02 the order
-//! that order 5 gives to files, the count of order 6, the plans of order 7 and
-//! the editions of order 8, as checks of this library.
+//! that order 5 gives to files, the count of order 6, the plans of order 7, the
+//! editions of order 8 and the moves of order 9, as checks of this library.
 
 use crate::catalogue::{listing, lookup, refusal, Listed, Record as Entry, Wide};
 use crate::draws::Draws;
@@ -13,6 +13,7 @@ use crate::place::{file_byte, image_byte, place, step, unit_at, unit_targets, Cu
 use crate::pool::{fail, homes, prepare, read, repair, show, write, Record};
 use crate::pool_count::{audit, missing_units, most_missing, panel, Counts, WRONG_COUNT};
 use crate::pool_list::write_list;
+use crate::pool_move::{move_edition, other_edition};
 use crate::pool_plan::{check_plan, draw_plan, repair_by, BAD_PLAN};
 use crate::pool_text::{read_text, write_text};
 use crate::replay::{first_line, play_line, replay, Event};
@@ -21,7 +22,7 @@ use crate::replay::{first_line, play_line, replay, Event};
 pub type Check = (&'static str, fn() -> bool);
 
 /// All of them.
-pub const CHECKS: [Check; 36] = [
+pub const CHECKS: [Check; 41] = [
     ("N=4 K=2 P=20: W=8, B=40, L=2, C=5", wide_layout),
     ("N=1 K=0 P=1: L=1, C=1", least_layout),
     ("N=16 K=3: P=22 accepted, P=21 refused 1", tight_layout),
@@ -123,6 +124,26 @@ pub const CHECKS: [Check; 36] = [
     (
         "order 8: the replay is edition 1, a line goes by the layout that it is lent",
         replayed_edition,
+    ),
+    (
+        "order 9: the row of the examples in edition 2, unit by unit",
+        example_moved,
+    ),
+    (
+        "order 9: target 3 failed, repaired or not, the new image is the same",
+        moves_of_failing_three,
+    ),
+    (
+        "order 9: there and back mends spares and parity, and nothing else",
+        there_and_back,
+    ),
+    (
+        "order 9: reads agree over the whole capacity, spares are zero, whatever failed",
+        reads_agree,
+    ),
+    (
+        "order 9: a refused move is the lowest of 1, 2, 3 and leaves zeros",
+        refused_moves,
     ),
 ];
 
@@ -403,12 +424,24 @@ fn after_a_call(draws: &mut Draws, shape: &Layout, record: &Record, image: &mut 
     play_line(shape, record, image, line.line().as_bytes(), room).record
 }
 
-/// The row of the examples with target 3 failed, and its image, which holds the
-/// file `0123456789abcdef`, but for target 3, which has other bytes by now.
+/// The image of the row of the examples that holds the file `0123456789abcdef`.
+fn example_stored() -> [u8; 48] {
+    let mut image = [0; 48];
+    write(
+        &example(),
+        &Record::default(),
+        &mut image,
+        0,
+        b"0123456789abcdef",
+    );
+    image
+}
+
+/// The row with target 3 failed, and that image, but for target 3, which has
+/// other bytes by now.
 fn three_failed() -> (Layout, Record, [u8; 48]) {
-    let (shape, whole, mut image) = (example(), Record::default(), [0; 48]);
-    write(&shape, &whole, &mut image, 0, b"0123456789abcdef");
-    let record = fail(&shape, &whole, &image, 3).1;
+    let (shape, mut image) = (example(), example_stored());
+    let record = fail(&shape, &Record::default(), &image, 3).1;
     image[36..].fill(0xee);
     (shape, record, image)
 }
@@ -559,6 +592,7 @@ fn answers_of_pools(shape: &Layout) -> Vec<u64> {
         check_plan(shape, &none, &image, &[]),
         repair_by(shape, &none, &mut image, &[]).0,
         draw_plan(shape, &none, &image, &mut []).0,
+        move_edition(shape, &none, &image, &mut [9; 48]),
     ]
 }
 
@@ -615,6 +649,132 @@ fn replayed_edition() -> bool {
         && replay(&[first, events[0], events[1]].concat()) == b"0\n0 0\n"
         && played(&row, &events) == "0\n0 0\n"
         && played(&row.in_edition(2), &events) == "0\n0 1\n"
+}
+
+/// The image that a move leaves, where it is accepted: before, it held no zero.
+fn moved(shape: &Layout, record: &Record, old: &[u8]) -> Option<Vec<u8>> {
+    let mut new = vec![7; old.len()];
+    (move_edition(shape, record, old, &mut new) == 0).then_some(new)
+}
+
+/// The file `0123456789abcdef` in edition 2, where P=4 gives 2,0,3,1: the three
+/// frames of each target.
+const MOVED: [[u8; 12]; 4] = [
+    *b"0123\0\0\0\0cdef",
+    *b"456789ab\0\0\0\0",
+    *b"01234567\0\0\0\0",
+    *b"\0\0\0\089abcdef",
+];
+
+fn example_moved() -> bool {
+    let (first, none) = (example_stored(), Record::default());
+    let (new, second) = (MOVED.as_flattened(), example().in_edition(2));
+    moved(&example(), &none, &first).as_deref() == Some(new)
+        && moved(&second, &none, new).as_deref() == Some(&first)
+}
+
+fn moves_of_failing_three() -> bool {
+    let (shape, record, mut image) = three_failed();
+    let unrepaired = moved(&shape, &record, &image);
+    let mended = repair(&shape, &record, &mut image).1;
+    let repaired = moved(&shape, &mended, &image);
+    let is_same = |new: &Option<Vec<u8>>| new.as_deref() == Some(MOVED.as_flattened());
+    is_same(&unrepaired) && is_same(&repaired)
+}
+
+/// From an image with one other byte, of each of its units in turn: a move shows
+/// it in the data that it is of, and not at all where it is of a spare or of
+/// parity, which is worked out afresh.
+fn there_and_back() -> bool {
+    let (first, none) = (example_stored(), Record::default());
+    (0..48).all(|at| {
+        let mut image = first;
+        image[at] ^= 1;
+        let new = moved(&example(), &none, &image).expect("the image has its length");
+        let back = moved(&example().in_edition(2), &none, &new).expect("so has the new one");
+        match image_byte(&example(), at as u64).1.offset {
+            Some(_) => new != MOVED.as_flattened() && back[at] == image[at],
+            None => new == MOVED.as_flattened() && back == first,
+        }
+    })
+}
+
+/// A drawn layout, and an image of it that holds a drawn file, or drawn bytes.
+fn drawn_image(draws: &mut Draws) -> (Layout, Vec<u8>) {
+    let (n, k) = (1 + draws.draw(4), draws.draw(4));
+    let p = n + 2 * k + draws.draw(4);
+    let shape = layout(n, k, p, 1 + draws.draw(3), 1 + draws.draw(3), draws.high())
+        .in_edition(1 + draws.draw(2));
+    let mut image = vec![0; shape.derived().image as usize];
+    if draws.draw(3) == 0 {
+        draws.fill(&mut image);
+    } else {
+        let mut file = vec![0; shape.derived().capacity as usize];
+        draws.fill(&mut file);
+        write(&shape, &Record::default(), &mut image, 0, &file);
+    }
+    (shape, image)
+}
+
+/// Pools from no failures on by fails and repairs, moved after each call.
+fn reads_agree() -> bool {
+    let mut draws = Draws::new(99);
+    (0..40).all(|_| {
+        let (shape, mut image) = drawn_image(&mut draws);
+        let mut record = Record::default();
+        (0..8).all(|_| {
+            record = after_a_call(&mut draws, &shape, &record, &mut image);
+            let length = image.len() / shape.p as usize;
+            for target in record.listed() {
+                draws.fill(&mut image[*target as usize * length..][..length]);
+            }
+            is_moved(&shape, &record, &image)
+        })
+    })
+}
+
+/// Whether the pool and what a move of it leaves show the same file, and every
+/// spare there is zero.
+fn is_moved(shape: &Layout, record: &Record, image: &[u8]) -> bool {
+    let numbers = shape.derived();
+    let (there, none) = (other_edition(shape), Record::default());
+    let Some(new) = moved(shape, record, image) else {
+        return false;
+    };
+    let [mut before, mut after] = [7, 8].map(|byte| vec![byte; numbers.capacity as usize]);
+    let reads = (
+        read(shape, record, image, 0, &mut before),
+        read(&there, &none, &new, 0, &mut after),
+    );
+    let is_zero = |group, unit| {
+        let begins = place(&there, group, unit).1.begins as usize;
+        new[begins..begins + shape.u as usize]
+            .iter()
+            .all(|byte| *byte == 0)
+    };
+    let are_zero = |group| (shape.contents()..numbers.w).all(|unit| is_zero(group, unit));
+    reads == (0, 0) && before == after && (0..numbers.groups).all(are_zero)
+}
+
+fn refused_moves() -> bool {
+    let bad = Record {
+        k: 2,
+        ..Record::default()
+    };
+    let answers = |shape: &Layout, record: &Record, lengths: [usize; 2], wanted| {
+        let [old, mut new] = lengths.map(|length| vec![7; length]);
+        let refusal = move_edition(shape, record, &old, &mut new);
+        refusal == wanted && new == vec![0; lengths[1]] && old == vec![7; lengths[0]]
+    };
+    let (good, flat) = (example(), Layout { u: 0, ..example() });
+    answers(&flat, &bad, [47, 49], 1)
+        && answers(&good.in_edition(0), &Record::default(), [48, 48], 1)
+        && answers(&good, &bad, [48, 47], 2)
+        && answers(&good, &bad, [49, 48], 2)
+        && answers(&good, &Record::default(), [49, 49], 2)
+        && answers(&good, &counted(0), [48, 0], 2)
+        && answers(&good, &bad, [48, 48], 3)
+        && answers(&good, &counted(9), [48, 48], 3)
 }
 
 #[cfg(test)]
