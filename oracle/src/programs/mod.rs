@@ -15,6 +15,7 @@ pub mod products;
 pub mod replay;
 mod row;
 pub mod session;
+pub mod upgrade;
 
 /// Writes one formatted line into a string.
 macro_rules! line {
@@ -26,7 +27,7 @@ macro_rules! line {
 pub(crate) use line;
 
 /// The programs by name.
-pub const NAMES: [&str; 12] = [
+pub const NAMES: [&str; 13] = [
     "examples",
     "layouts",
     "products",
@@ -38,6 +39,7 @@ pub const NAMES: [&str; 12] = [
     "mail",
     "session",
     "controller",
+    "upgrade",
     "replay",
 ];
 
@@ -55,6 +57,7 @@ pub fn expected(name: &str) -> Option<String> {
         "mail" => Some(mail::output()),
         "session" => Some(session::output()),
         "controller" => Some(controller::output()),
+        "upgrade" => Some(upgrade::output()),
         "replay" => Some(replay::output()),
         _ => None,
     }

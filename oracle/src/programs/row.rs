@@ -1,4 +1,4 @@
-//! The row of drives that `morning`, `mail` and `session` speak of.
+//! The row of drives that `morning`, `mail`, `session` and `upgrade` speak of.
 
 use super::{answered, line};
 use crate::layout::{layout, Layout};
