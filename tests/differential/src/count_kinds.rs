@@ -22,7 +22,7 @@ type Test = fn(&Counted) -> bool;
 type Comparison = fn(u64, u64) -> bool;
 
 /// The calls that take a record, the events of a replayed line last.
-pub const TAKERS: [&str; 16] = [
+pub const TAKERS: [&str; 17] = [
     "fail",
     "read",
     "write",
@@ -31,6 +31,7 @@ pub const TAKERS: [&str; 16] = [
     "check_plan",
     "repair_by",
     "draw_plan",
+    "move_edition",
     "panel",
     "audit",
     "prepare",
@@ -128,7 +129,7 @@ impl<'a> Counted<'a> {
         Counted { call: call.name(), pool, refusal, target: None }
     }
 
-    fn is(&self, call: &str, refusal: u64) -> bool {
+    pub fn is(&self, call: &str, refusal: u64) -> bool {
         self.call == call && self.refusal == refusal
     }
 
@@ -159,7 +160,7 @@ impl<'a> Counted<'a> {
         self.waiting() == self.most()
     }
 
-    fn some_wait(&self) -> bool {
+    pub fn some_wait(&self) -> bool {
         self.pool.record.k > self.pool.record.q
     }
 

@@ -23,6 +23,10 @@ mod line_damages;
 mod line_kinds;
 mod list_kinds;
 mod lists;
+mod move_kinds;
+mod move_rules;
+mod move_tally;
+mod moves;
 mod places;
 mod plan_damages;
 mod plan_draws;
@@ -65,14 +69,20 @@ const USAGE: &str =
            extra-each-time, other-inverse, second-as-first, first-as-second, zero-as-first, three-as-second,
            edition-of-8-bits, edition-of-16-bits, edition-of-32-bits, edition-in-the-start,
            first-line-of-second, edition-though-refused, and in one call alone first-in-CALL and
-           untested-in-CALL, with the name of the call without splicebell_";
+           untested-in-CALL, with the name of the call without splicebell_; of the moves' rules spares-kept,
+           first-spares-alone, parity-copied, parity-left-out, same-edition, cookie-dropped, old-homes-used,
+           missing-as-they-lie, highest-sources, all-as-repaired, none-as-repaired, last-group-left-out,
+           groups-of-16-bits, first-tile-for-all, old-mended, kept-though-refused, tail-kept,
+           moved-though-refused, old-length-untested, new-length-untested, lengths-alike, record-first,
+           true-count-alone, healthy-alone, all-entries";
 
 /// Under two minutes, also where x86-64 is emulated.
 const USUAL_RUNS: u64 = 300_000;
-/// Of so many rounds one, the first of them early, has a pool with many groups: each run has such plans, few of them,
-/// since the model takes its time.
-const WIDE_PLANS: u64 = 4000;
+/// Of so many rounds one, the first of them early, has a pool with many groups for plans, and one for moves: each run has
+/// them, few of them, since the model takes its time.
+const MANY_GROUPS: u64 = 4000;
 const FIRST_WIDE_PLANS: u64 = 100;
+const FIRST_WIDE_MOVES: u64 = 150;
 
 struct Options {
     runs: u64,
@@ -101,16 +111,19 @@ fn options(mut words: impl Iterator<Item = String>) -> Option<Options> {
 fn round(bench: &mut Bench, seed: u64, number: u64) {
     ROUND.store(number, Relaxed);
     bench.draws = Draws::new(seed, number);
-    if number % WIDE_PLANS == FIRST_WIDE_PLANS {
-        return wide_plans::round(bench);
+    match number % MANY_GROUPS {
+        FIRST_WIDE_PLANS => return wide_plans::round(bench),
+        FIRST_WIDE_MOVES => return moves::wide_round(bench),
+        _ => {}
     }
-    match bench.draws.below(17) {
+    match bench.draws.below(19) {
         0 | 1 => places::round(bench),
         2 | 3 => groups::round(bench),
         4 | 5 => catalogues::round(bench),
         6 => texts::round(bench),
         7..=9 => replays::round(bench),
         10 | 11 => plans::round(bench),
+        12 | 13 => moves::round(bench),
         _ => pools::round(bench),
     }
 }

@@ -37,23 +37,25 @@ pub fn range(draws: &mut Draws, pool: &Pool) -> (u64, usize) {
 }
 
 /// What the calls that only read the image and fill an output share: its name, its bytes before the call,
-/// and the rest of what is asked, for a report.
-struct Asked {
+/// what it must become, where that is known without the model, and the rest of what is asked, for a report.
+struct Asked<'a> {
     call: Call,
     output: &'static str,
     before: Vec<u8>,
+    wanted: Option<&'a [u8]>,
     rest: String,
 }
 
-/// Makes such a call: `library` is given the layout, and the lent image and output, `model` the output alone.
+/// Makes such a call: `library` is given the layout, and the lent image and output, `model` the output alone. Answers what
+/// the output holds then.
 fn fill_output(
     bench: &mut Bench,
     pool: &Pool,
     asked: Asked,
     library: impl FnOnce(splicebell_layout, &Lent<u8>, &Lent<u8>) -> u64,
     model: impl FnOnce(&mut [u8]) -> u64,
-) {
-    let Asked { call, output, before, rest } = asked;
+) -> Vec<u8> {
+    let Asked { call, output, before, wanted, rest } = asked;
     let inputs = || format!("{} {rest} {output} {}", pool.told(), hex(&before));
     let mut trial = bench.begin(call, &inputs);
     let (image, out) = (bench.lend(&pool.image), bench.lend_mut(&before));
@@ -63,14 +65,30 @@ fn fill_output(
     trial.number("refusal", answer, refusal);
     trial.buffer("image", &image, &pool.image);
     trial.buffer(output, &out, &expected);
+    if let Some(wanted) = wanted {
+        trial.buffer("out, against the same file elsewhere", &out, wanted);
+    }
     bench.end(trial, refusal);
     bench.tally.add_count(&Counted::of(call, pool, refusal));
+    expected
 }
 
 pub fn read(bench: &mut Bench, pool: &Pool) {
     let (offset, length) = range(&mut bench.draws, pool);
+    read_at(bench, pool, offset, length, None);
+}
+
+/// Reads this range. `wanted` is what it must show, where that is known without the model's read. Answers what it shows.
+pub fn read_at(
+    bench: &mut Bench,
+    pool: &Pool,
+    offset: u64,
+    length: usize,
+    wanted: Option<&[u8]>,
+) -> Vec<u8> {
     let before = bench.draws.bytes(length);
-    let asked = Asked { call: Call::Read, output: "out", before, rest: format!("offset {offset}") };
+    let rest = format!("offset {offset}");
+    let asked = Asked { call: Call::Read, output: "out", before, wanted, rest };
     let (y, r, taken) = (&pool.layout, &pool.record, Library::of(bench).record(pool));
     let library = |y: splicebell_layout, image: &Lent<u8>, out: &Lent<u8>| {
         let (at, length) = (image.pointer(), image.len());
@@ -78,7 +96,7 @@ pub fn read(bench: &mut Bench, pool: &Pool) {
         unsafe { raw::splicebell_read(y, taken, at, length, offset, out.pointer(), out.len()) }
     };
     let model = |out: &mut [u8]| oracle::pool::read(y, r, &pool.image, offset, out);
-    fill_output(bench, pool, asked, library, model);
+    fill_output(bench, pool, asked, library, model)
 }
 
 /// Answers what the model says the pool is afterwards, as fail and repair do.
@@ -203,7 +221,7 @@ fn look(draws: &mut Draws, y: &Layout) -> (u64, u64, Vec<u8>) {
 pub fn prepare(bench: &mut Bench, pool: &Pool) {
     let (group, content, before) = look(&mut bench.draws, &pool.layout);
     let rest = format!("group {group} content {content}");
-    let asked = Asked { call: Call::Prepare, output: "scratch", before, rest };
+    let asked = Asked { call: Call::Prepare, output: "scratch", before, wanted: None, rest };
     let (y, r, taken) = (&pool.layout, &pool.record, Library::of(bench).record(pool));
     let library = |y: splicebell_layout, image: &Lent<u8>, scratch: &Lent<u8>| {
         let (at, length) = (scratch.pointer(), scratch.len());
@@ -251,7 +269,7 @@ pub fn hex_line(bench: &mut Bench, pool: &Pool) {
     let length = bench.draws.length(11 + 2 * y.u.min(LONGEST_UNIT) as usize);
     let before = bench.draws.bytes(length);
     let rest = format!("target {target} frame {frame}");
-    let asked = Asked { call: Call::HexLine, output: "line", before, rest };
+    let asked = Asked { call: Call::HexLine, output: "line", before, wanted: None, rest };
     let library = |y: splicebell_layout, image: &Lent<u8>, line: &Lent<u8>| {
         let (at, length) = (image.pointer(), image.len());
         let (line, line_length) = (line.pointer(), line.len());

@@ -5,9 +5,8 @@ use crate::counts::{self, audit, audit_another, fail_about_the_bound, panel, rep
 use crate::draws::Draws;
 use crate::layouts::is_light;
 use crate::lists::write_list;
-use crate::plans;
 use crate::pool_calls::{fail, hex_line, prepare, read, repair, show, write};
-use crate::{layouts, records};
+use crate::{layouts, moves, plans, records};
 use oracle::layout::Layout;
 use oracle::place::{place, unit_targets};
 use oracle::pool::{homes, Record};
@@ -37,6 +36,8 @@ pub struct Pool {
     pub is_scribbled: bool,
     /// Whether the image became what it is from zeros by calls on this layout and record, so that present contents agree.
     pub holds_file: bool,
+    /// Whether it became what it is from what a move left.
+    pub is_moved: bool,
 }
 
 impl Pool {
@@ -51,10 +52,10 @@ impl Pool {
         if draws.one_in(3) {
             let record = records::good(draws, &layout);
             let (image, is_scribbled) = (draws.bytes(length), record.k > 0);
-            Pool { layout, record, image, is_scribbled, holds_file: false }
+            Pool { layout, record, image, is_scribbled, holds_file: false, is_moved: false }
         } else {
             let (record, image) = (records::empty(draws), vec![0; length]);
-            Pool { layout, record, image, is_scribbled: false, holds_file: true }
+            Pool { layout, record, image, is_scribbled: false, holds_file: true, is_moved: false }
         }
     }
 
@@ -177,7 +178,7 @@ pub fn round(bench: &mut Bench) {
 
 /// Makes one call; what it leaves, for calls that change the record or the image.
 fn call(bench: &mut Bench, pool: &Pool) -> Option<Pool> {
-    match bench.draws.below(36) {
+    match bench.draws.below(38) {
         0..=3 => read(bench, pool),
         4..=8 => return Some(write(bench, pool)),
         9..=11 => return Some(fail(bench, pool)),
@@ -191,6 +192,7 @@ fn call(bench: &mut Bench, pool: &Pool) -> Option<Pool> {
         27 if is_light(&pool.layout) => repair_another(bench, pool),
         24..=29 => fail_about_the_bound(bench, pool),
         30..=31 if is_light(&pool.layout) => return plans::call(bench, pool),
+        32..=33 if is_light(&pool.layout) => return moves::call(bench, pool),
         _ => return Some(write_list(bench, pool)),
     }
     None

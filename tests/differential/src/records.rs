@@ -53,6 +53,37 @@ fn listed(draws: &mut Draws, y: &Layout, k: u64, q: u64) -> Record {
     record
 }
 
+/// A record that is bad in that a target is listed twice. The layout has two parity units at least.
+pub fn repeated(draws: &mut Draws, y: &Layout) -> Record {
+    let k = draws.between(2, y.k);
+    let q = draws.between(0, k);
+    let mut record = listed(draws, y, k, q);
+    repeat(draws, &mut record);
+    record
+}
+
+/// A record that is bad in that a listed target is outside. The layout has a parity unit at least.
+pub fn outside(draws: &mut Draws, y: &Layout) -> Record {
+    let k = draws.between(1, y.k);
+    let q = draws.between(0, k);
+    let mut record = listed(draws, y, k, q);
+    put_outside(draws, y, &mut record);
+    record
+}
+
+/// Puts a number that is no target in the place of one. The list is not empty.
+fn put_outside(draws: &mut Draws, y: &Layout, record: &mut Record) {
+    let edge = draws.edge();
+    let entry = draws.below(record.k) as usize;
+    record.failed[entry] = draws.pick(&[y.p, y.p.saturating_add(1), edge]);
+}
+
+/// Puts an earlier target in the place of a later one. The list has two at least.
+fn repeat(draws: &mut Draws, record: &mut Record) {
+    let last = draws.between(1, record.k - 1) as usize;
+    record.failed[last] = record.failed[draws.below(last as u64) as usize];
+}
+
 /// The record as if nothing had been repaired: each content's home is its own place.
 pub fn as_at_first(r: &Record) -> Record {
     Record { q: 0, ..*r }
@@ -62,18 +93,11 @@ pub fn as_at_first(r: &Record) -> Record {
 pub fn bad(draws: &mut Draws, y: &Layout) -> Record {
     let mut record = good(draws, y);
     let edge = draws.edge();
-    let used = record.k.min(3);
     match draws.below(7) {
         0 => record.k = draws.pick(&[y.k.saturating_add(1), 4, edge]),
         1 => record.q = draws.pick(&[record.k + 1, edge]),
-        2 if used > 0 => {
-            let entry = draws.below(used) as usize;
-            record.failed[entry] = draws.pick(&[y.p, y.p.saturating_add(1), edge]);
-        }
-        3 if used > 1 => {
-            let last = draws.between(1, used - 1) as usize;
-            record.failed[last] = record.failed[draws.below(last as u64) as usize];
-        }
+        2 if record.k > 0 => put_outside(draws, y, &mut record),
+        3 if record.k > 1 => repeat(draws, &mut record),
         4 => record = Record { failed: [edge; 3], k: edge, q: edge, waiting: edge },
         5 => record.waiting = counts::above(draws, y),
         _ => {

@@ -1,11 +1,12 @@
 //! Faults made on purpose, one for each kind of comparison, one for each rule of the catalogue's numbers of two words, one
-//! for each of the count of missing units, one for each of plans of repair and one for each of the edition: the tester must
-//! report every one of them.
+//! for each of the count of missing units, one for each of plans of repair, one for each of the edition and one for each of
+//! moves between editions: the tester must report every one of them.
 
 use crate::catalogue_rules::Rule;
 use crate::count_rules::CountRule;
 use crate::edition_rules::EditionRule;
 use crate::lent::Lent;
+use crate::move_rules::MoveRule;
 use crate::plan_rules::Numbers::{Content, Group, Sources};
 use crate::plan_rules::PlanRule;
 use crate::tally::Call;
@@ -35,9 +36,11 @@ pub enum Spoil {
     Plan(PlanRule),
     /// A rule of the edition is another.
     Edition(EditionRule),
+    /// A rule of moves between editions is another.
+    Move(MoveRule),
 }
 
-const KINDS: [(&str, Spoil); 71] = [
+const KINDS: [(&str, Spoil); 96] = [
     ("answer", Spoil::Answer),
     ("byte", Spoil::Byte),
     ("before", Spoil::Before),
@@ -109,6 +112,31 @@ const KINDS: [(&str, Spoil); 71] = [
     ("edition-in-the-start", Spoil::Edition(EditionRule::InTheStart)),
     ("first-line-of-second", Spoil::Edition(EditionRule::FirstLineOfSecond)),
     ("edition-though-refused", Spoil::Edition(EditionRule::EditionThoughRefused)),
+    ("spares-kept", Spoil::Move(MoveRule::SparesKept)),
+    ("first-spares-alone", Spoil::Move(MoveRule::FirstSparesAlone)),
+    ("parity-copied", Spoil::Move(MoveRule::ParityCopied)),
+    ("parity-left-out", Spoil::Move(MoveRule::ParityLeftOut)),
+    ("same-edition", Spoil::Move(MoveRule::SameEdition)),
+    ("cookie-dropped", Spoil::Move(MoveRule::CookieDropped)),
+    ("old-homes-used", Spoil::Move(MoveRule::OldHomesUsed)),
+    ("missing-as-they-lie", Spoil::Move(MoveRule::MissingAsTheyLie)),
+    ("highest-sources", Spoil::Move(MoveRule::HighestSources)),
+    ("all-as-repaired", Spoil::Move(MoveRule::AllAsRepaired)),
+    ("none-as-repaired", Spoil::Move(MoveRule::NoneAsRepaired)),
+    ("last-group-left-out", Spoil::Move(MoveRule::LastGroupLeftOut)),
+    ("groups-of-16-bits", Spoil::Move(MoveRule::GroupsOf16Bits)),
+    ("first-tile-for-all", Spoil::Move(MoveRule::FirstTileForAll)),
+    ("old-mended", Spoil::Move(MoveRule::OldMended)),
+    ("kept-though-refused", Spoil::Move(MoveRule::KeptThoughRefused)),
+    ("tail-kept", Spoil::Move(MoveRule::TailKept)),
+    ("moved-though-refused", Spoil::Move(MoveRule::MovedThoughRefused)),
+    ("old-length-untested", Spoil::Move(MoveRule::OldLengthUntested)),
+    ("new-length-untested", Spoil::Move(MoveRule::NewLengthUntested)),
+    ("lengths-alike", Spoil::Move(MoveRule::LengthsAlike)),
+    ("record-first", Spoil::Move(MoveRule::RecordFirst)),
+    ("true-count-alone", Spoil::Move(MoveRule::TrueCountAlone)),
+    ("healthy-alone", Spoil::Move(MoveRule::HealthyAlone)),
+    ("all-entries", Spoil::Move(MoveRule::AllEntries)),
 ];
 
 /// A rule that is another in the call of this name alone.

@@ -1,6 +1,6 @@
 //! What has been tried so far: the calls with their refusal numbers, the layouts, the damage done to texts, to plans of
-//! repair and to replayed lines, the kinds of lists of writes, of plans, of calls on catalogues and of calls by the count
-//! in their record or the edition of their layout, and those of replayed lines with the numbers of their answers.
+//! repair and to replayed lines, the kinds of lists of writes, of plans, of moves, of calls on catalogues and of calls by
+//! the count in their record or the edition of their layout, and those of replayed lines with the numbers of their answers.
 
 use crate::catalogue_kinds::{Asked, CATALOGUE_KINDS};
 use crate::count_kinds::{Counted, COUNTS, COUNT_KINDS, TAKERS};
@@ -10,6 +10,7 @@ use crate::edition_tally::EditionTally;
 use crate::line_damages::LINE_DAMAGES;
 use crate::line_kinds::{FirstLine, Line, EVENTS, FIRST_KINDS, LINE_KINDS, MALFORMED};
 use crate::list_kinds::{Listed, KINDS};
+use crate::move_tally::MoveTally;
 use crate::plan_tally::PlanTally;
 use oracle::layout::Layout;
 
@@ -34,6 +35,7 @@ pub enum Call {
     CheckPlan,
     RepairBy,
     DrawPlan,
+    MoveEdition,
     Panel,
     Audit,
     Prepare,
@@ -50,7 +52,7 @@ pub enum Call {
 }
 
 /// The name of each call, and the numbers that it may answer by include/splicebell.h, beside 0.
-const CALLS: [(&str, &[usize]); 31] = [
+const CALLS: [(&str, &[usize]); 32] = [
     ("measure", &[1]),
     ("tile_permutation", &[1, 4]),
     ("tile_inverse", &[1, 4]),
@@ -69,6 +71,7 @@ const CALLS: [(&str, &[usize]); 31] = [
     ("check_plan", &[1, 2, 3, 15]),
     ("repair_by", &[1, 2, 3, 15]),
     ("draw_plan", &[1, 2, 3, 5]),
+    ("move_edition", &[1, 2, 3]),
     ("panel", &[1, 2, 3]),
     ("audit", &[1, 2, 3, 14]),
     ("prepare", &[1, 2, 3, 4, 5]),
@@ -162,6 +165,8 @@ pub struct Tally {
     pub editions: EditionTally,
     plan_layouts: Ranges,
     pub plans: PlanTally,
+    move_layouts: Ranges,
+    pub moves: MoveTally,
     replays: Ranges,
     /// How often each event was answered with each number, and how often a line was malformed.
     events: [[u64; REFUSALS]; EVENTS.len()],
@@ -187,6 +192,8 @@ impl Tally {
         editions: EditionTally::NONE,
         plan_layouts: Ranges::NONE,
         plans: PlanTally::NONE,
+        move_layouts: Ranges::NONE,
+        moves: MoveTally::NONE,
         replays: Ranges::NONE,
         events: [[0; REFUSALS]; EVENTS.len()],
         malformed: 0,
@@ -241,6 +248,7 @@ impl Tally {
     /// A call was made and answered. One that takes no record is not counted here.
     pub fn add_count(&mut self, call: &Counted) {
         let Some(taker) = TAKERS.iter().position(|name| *name == call.call) else { return };
+        self.moves.add_later(call);
         for ((_, is_met), count) in COUNTS.iter().zip(&mut self.counts_taken[taker]) {
             *count += u64::from(is_met(call));
         }
@@ -252,6 +260,11 @@ impl Tally {
     /// A layout whose pool is repaired by plans.
     pub fn add_plan_layout(&mut self, layout: &Layout) {
         self.plan_layouts.add(layout);
+    }
+
+    /// A layout whose pool is moved to the other edition.
+    pub fn add_move_layout(&mut self, layout: &Layout) {
+        self.move_layouts.add(layout);
     }
 
     /// A layout whose pool lines are played on.
@@ -317,11 +330,13 @@ impl Tally {
         self.print_counts();
         self.editions.print();
         self.plans.print();
+        self.moves.print();
         self.print_lines();
         self.all.print("without an image");
         self.pools.print("pools");
         self.texts.print("texts");
         self.plan_layouts.print("plans");
+        self.move_layouts.print("moves");
         self.replays.print("replays");
     }
 
@@ -354,8 +369,8 @@ impl Tally {
     }
 
     /// The calls and their refusal numbers that were never met, the damage that was never done, and the kinds of
-    /// lists, of plans, of calls on catalogues, of calls by their count or their edition and of replayed lines that were
-    /// never met.
+    /// lists, of plans, of moves, of calls on catalogues, of calls by their count or their edition and of replayed lines
+    /// that were never met.
     pub fn never_met(&self) -> Vec<String> {
         let mut never = Vec::new();
         for ((name, refusals), of_call) in CALLS.iter().zip(self.counts) {
@@ -378,6 +393,7 @@ impl Tally {
         never.extend(unmet("a call by its count,", &COUNT_KINDS, &self.counted));
         never.extend(self.editions.never_met());
         never.extend(self.plans.never_met());
+        never.extend(self.moves.never_met());
         never.extend(unmet("a line damaged by", &LINE_DAMAGES, &self.line_damages));
         never.extend(unmet("a line with", &LINE_KINDS, &self.lines));
         never.extend(unmet("a first line with", &FIRST_KINDS, &self.firsts));
