@@ -16,9 +16,11 @@ use oracle::layout::Layout;
 use oracle::pool::Record;
 use oracle::pool_move::{self, other_edition};
 
-/// How long images may be: one in so many pools, up to so many bytes.
-const SIZES: [(u64, u64); 2] = [(30, 1 << 16), (8, 1 << 13)];
+/// How long images may be: one in so many pools, up to so many bytes. Long ones have few groups, and so long units: the model
+/// takes its time for each group.
+const SIZES: [(u64, u64); 2] = [(25, 1 << 16), (8, 1 << 13)];
 const USUAL_IMAGE: u64 = 640;
+const MOST_GROUPS: u64 = 100;
 /// One in so many layouts has one target, one the most targets, one the most data units; and of others that have no parity
 /// one in so many is taken, since nothing of them is ever missing.
 const SINGLE: u64 = 24;
@@ -38,8 +40,10 @@ fn layout(draws: &mut Draws) -> Layout {
     }
     loop {
         let layout = layouts::fitting(draws, most);
+        let is_quick = most == USUAL_IMAGE || layout.derived().groups <= MOST_GROUPS;
         let has_parity = layout.k > 0 || draws.one_in(WITHOUT_PARITY);
-        if has_parity && (!targets || layout.p == 64) && (!data || targets || layout.n == 16) {
+        let is_wide = (!targets || layout.p == 64) && (!data || targets || layout.n == 16);
+        if is_quick && has_parity && is_wide {
             return layout;
         }
     }
