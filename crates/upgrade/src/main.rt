@@ -152,34 +152,48 @@ fn photographed() -> [u8; 160] {
     image
 }
 
+// The file, and the drives that it stands on.
+fn show_row(y: Layout, image: [u8; 160]) {
+    let mut file = [0u8; 80];
+    show(y, no_failures(), &image, &mut file);
+    drives(y, &image);
+}
+
+// A move, beside an image that is named.
+fn moved(y: Layout, r: Record, image: [u8; 160], what: &[u8], other: [u8; 160]) -> [u8; 160] {
+    let mut new = [0u8; 160];
+    upgrade(y, r, &image, &mut new);
+    beside(what, &new, &other);
+    new
+}
+
+fn moved_back(image: [u8; 160], what: &[u8], first: [u8; 160]) {
+    moved(upgraded_row(), no_failures(), image, what, first);
+}
+
 // Answers the row in edition 2.
 fn there_and_back(first: [u8; 160]) -> [u8; 160] {
-    let r = no_failures();
-    let mut file = [0u8; 80];
-    show(row(), r, &first, &mut file);
-    drives(row(), &first);
+    show_row(row(), first);
     let mut second = [0u8; 160];
-    upgrade(row(), r, &first, &mut second);
-    show(upgraded_row(), r, &second, &mut file);
-    drives(upgraded_row(), &second);
-    let mut back = [0u8; 160];
-    upgrade(upgraded_row(), r, &second, &mut back);
-    beside(b"the row before", &back, &first);
+    upgrade(row(), no_failures(), &first, &mut second);
+    show_row(upgraded_row(), second);
+    moved_back(second, b"the row before", first);
     second
+}
+
+fn after_its_repair(failed: Record, dead: [u8; 160], first: [u8; 160], second: [u8; 160]) {
+    let mut image = dead;
+    let mended = mend(row(), failed, &mut image);
+    let new = moved(row(), mended, image, b"the first move", second);
+    moved_back(new, b"the row before it died", first);
 }
 
 fn with_a_drive_dead(first: [u8; 160], second: [u8; 160]) {
     text(b"Drive 2 is dead, then repaired\n");
     let mut image = first;
-    let mut new = [0u8; 160];
     let failed = lose(row(), no_failures(), &mut image, 2, 64, 96);
-    upgrade(row(), failed, &image, &mut new);
-    beside(b"the first move", &new, &second);
-    let mended = mend(row(), failed, &mut image);
-    upgrade(row(), mended, &image, &mut new);
-    beside(b"the first move", &new, &second);
-    upgrade(upgraded_row(), no_failures(), &new, &mut image);
-    beside(b"the row before it died", &image, &first);
+    moved(row(), failed, image, b"the first move", second);
+    after_its_repair(failed, image, first, second);
 }
 
 // Group 0 has its parity at the beginning of drive 4 and its spare at that of drive 3.
@@ -191,11 +205,8 @@ fn with_other_bytes(first: [u8; 160], second: [u8; 160]) {
     text(b"Checksum of the image");
     number(checksum(&image));
     newline();
-    let mut new = [0u8; 160];
-    upgrade(row(), no_failures(), &image, &mut new);
-    beside(b"the first move", &new, &second);
-    upgrade(upgraded_row(), no_failures(), &new, &mut image);
-    beside(b"the row before", &image, &first);
+    let new = moved(row(), no_failures(), image, b"the first move", second);
+    moved_back(new, b"the row before", first);
 }
 
 // The file as it is in edition 2, and after a move back.
@@ -232,6 +243,20 @@ fn stored_large() -> [u8; 384] {
     image
 }
 
+fn large_back(image: [u8; 384], first: [u8; 384]) {
+    let mut back = [0u8; 384];
+    upgrade(large_row(2), no_failures(), &image, &mut back);
+    beside(b"the row before they died", &back, &first);
+}
+
+fn large_moved(r: Record, image: [u8; 384], first: [u8; 384]) {
+    let mut new = [0u8; 384];
+    upgrade(large_row(1), r, &image, &mut new);
+    let mut file = [0u8; 128];
+    show(large_row(2), no_failures(), &new, &mut file);
+    large_back(new, first);
+}
+
 // Drive 2 is repaired before drive 5 dies.
 fn on_eight_drives() {
     text(b"A row of eight drives and two tiles\n");
@@ -240,12 +265,7 @@ fn on_eight_drives() {
     let failed = lose(large_row(1), no_failures(), &mut image, 2, 96, 144);
     let mended = mend(large_row(1), failed, &mut image);
     let both = lose(large_row(1), mended, &mut image, 5, 240, 288);
-    let mut new = [0u8; 384];
-    upgrade(large_row(1), both, &image, &mut new);
-    let mut file = [0u8; 128];
-    show(large_row(2), no_failures(), &new, &mut file);
-    upgrade(large_row(2), no_failures(), &new, &mut image);
-    beside(b"the row before they died", &image, &first);
+    large_moved(both, image, first);
 }
 
 // ---- moves that are refused
@@ -262,6 +282,14 @@ fn say_zeros(new: &[u8]) {
     text(b", the new image is NOT zeros");
 }
 
+fn refused_into(what: &[u8], y: Layout, r: Record, old: &[u8], new: &mut [u8]) {
+    let refusal = pool_move::move_edition(y, r, old, new);
+    text(what);
+    text(b": ");
+    answer(refusal);
+    say_zeros(new);
+}
+
 // The lengths of the images, of which all bytes are aa before.
 fn refused(what: &[u8], y: Layout, r: Record, old_size: usize, new_size: usize) {
     if 161 < old_size {
@@ -272,11 +300,7 @@ fn refused(what: &[u8], y: Layout, r: Record, old_size: usize, new_size: usize) 
     }
     let old = [170u8; 161];
     let mut new = [170u8; 161];
-    let refusal = pool_move::move_edition(y, r, &old[0..old_size], &mut new[0..new_size]);
-    text(what);
-    text(b": ");
-    answer(refusal);
-    say_zeros(&new[0..new_size]);
+    refused_into(what, y, r, &old[0..old_size], &mut new[0..new_size]);
     text(b", the old one is ");
     let before = [170u8; 161];
     say_same(&old[0..old_size], &before[0..old_size]);
