@@ -28,8 +28,8 @@ unfoldable pub movedByte : Plan → List ℕ → ℕ → ℕ → ℕ
 movedByte P old c o = content (P .n) (held P old o) c
 
 -- the same by what stands in the new image, where the data are by then
-unfoldable pub contentByte : Plan → Plan → List ℕ → List ℕ → ℕ → ℕ → ℕ
-contentByte P Q old new c o = pick (ltb c (P .n)) (held P old o c) (parityOf (P .n) (column Q new o) (c - P .n))
+unfoldable pub byteStored : Plan → Plan → List ℕ → List ℕ → ℕ → ℕ → ℕ
+byteStored P Q old new c o = pick (ltb c (P .n)) (held P old o c) (parityOf (P .n) (column Q new o) (c - P .n))
 
 -- the first m contents are moved
 unfoldable pub contentsMoved : Plan → Plan → List ℕ → ℕ → List ℕ → List ℕ

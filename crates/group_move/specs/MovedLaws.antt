@@ -17,7 +17,7 @@ use Rattle.plan.specs.Plans.{atOf, missOf, Fits, Apart, column, held}
 use Rattle.runs.specs.Run.{runSet, runSet-ext, paint, paint-turn, paint-hit}
 use Rattle.runs.specs.Held.{heldRun, zeroByte}
 use Rattle.updates.specs.Sources.{standing, parityAt, gathered, parityOver}
-use Rattle.group_move.specs.Moved.{Meets, always, movedByte, contentByte, contentsMoved, unitsCleared}
+use Rattle.group_move.specs.Moved.{Meets, always, movedByte, byteStored, contentsMoved, unitsCleared}
 
 -- ---- units of zeros
 
@@ -49,8 +49,8 @@ module _ (P Q : Plan) (size : ℕ) (fits : Fits Q size) (meets : Meets P Q) wher
     inside = omega (arith, unit-in c hc, len)
 
     -- a data unit
-    pub data-made : c < P .n → new′ ≡ runSet (atOf Q c) (P .u) (heldRun P old 0 c) new → new′ ≡ runSet (atOf Q c) (P .u) (contentByte P Q old new c) new
-    unfolding heldRun contentByte
+    pub data-made : c < P .n → new′ ≡ runSet (atOf Q c) (P .u) (heldRun P old 0 c) new → new′ ≡ runSet (atOf Q c) (P .u) (byteStored P Q old new c) new
+    unfolding heldRun byteStored
     data-made h e =
         e
         ∙ runSet-ext (atOf Q c) (P .u) _ _ new inside
@@ -59,8 +59,8 @@ module _ (P Q : Plan) (size : ℕ) (fits : Fits Q size) (meets : Meets P Q) wher
     -- a parity unit
     pub parity-made : (lost : List ℕ) → P .n ≤ c
         → new′ ≡ pick (standing Q (c - P .n)) (runSet (parityAt Q 0 (c - P .n)) (Q .u) (parityOver Q new lost 0 (c - P .n)) new) new
-        → new′ ≡ runSet (atOf Q c) (P .u) (contentByte P Q old new c) new
-    unfolding standing parityAt parityOver gathered contentByte
+        → new′ ≡ runSet (atOf Q c) (P .u) (byteStored P Q old new c) new
+    unfolding standing parityAt parityOver gathered byteStored
     parity-made lost h e =
         e
         ∙ pick-true (not (missOf Q (Q .n + (c - P .n)))) _ _ (ap (λ (d : ℕ). not (missOf Q d)) here ∙ ap not (nothing-missing c hc))
@@ -106,15 +106,15 @@ module _ (P Q : Plan) (old new₀ : List ℕ) where
         ∙ content-data (P .n) (held P old o) j hj
 
     pub moved-turn : (c : ℕ) (new new′ : List ℕ) → c < P .n + P .k → length new ≡ length new₀ → new ≡ contentsMoved P Q old c new₀
-        → new′ ≡ runSet (atOf Q c) (P .u) (contentByte P Q old new c) new → new′ ≡ contentsMoved P Q old (c + 1) new₀
+        → new′ ≡ runSet (atOf Q c) (P .u) (byteStored P Q old new c) new → new′ ≡ contentsMoved P Q old (c + 1) new₀
     unfolding contentsMoved
     moved-turn c new new′ hc len e e′ =
         paint-turn always (atOf Q) (P .u) (movedByte P old) c new₀ new new′ e
         (e′ ∙ runSet-ext (atOf Q c) (P .u) _ _ new (omega (arith, unit-in P Q (length new₀) fits meets c hc, len)) right)
       where
-        right : (o : ℕ) → o < P .u → contentByte P Q old new c o ≡ movedByte P old c o
+        right : (o : ℕ) → o < P .u → byteStored P Q old new c o ≡ movedByte P old c o
         right o k =
-            unfold contentByte in unfold movedByte in below-or-not c (P .n)
+            unfold byteStored in unfold movedByte in below-or-not c (P .n)
             (λ (h : c < P .n). pick-true (ltb c (P .n)) _ _ (lt-ltb c (P .n) h) ∙ sym (content-data (P .n) (held P old o) c h))
             (λ (h : P .n ≤ c).
             pick-false (ltb c (P .n)) _ _ (le-ltb c (P .n) h)

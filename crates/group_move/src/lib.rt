@@ -7,13 +7,13 @@ ghost use lib.ListN.{length, getD};
 ghost use Rattle.plan.specs.Plans.{atOf, Fits, Apart};
 ghost use Rattle.runs.specs.Run.{runSet};
 ghost use Rattle.updates.specs.Sources.{Begins};
-ghost use Rattle.group_move.specs.Moved.{Meets, contentByte, contentsMoved, unitsCleared};
+ghost use Rattle.group_move.specs.Moved.{Meets, byteStored, contentsMoved, unitsCleared};
 
 // Content c of the group, from where the plan p finds it in the old image to where q has it in the new one: a data unit as it stands or rebuilt, a
 // parity unit worked out from the data units, which are in the new image by then and begin at `starts`.
 fn move_content(p: Plan, q: Plan, starts: [usize; 16], old: &[u8], new: &mut [u8], c: usize)
     requires { ⌜ Fits p (length (now old)) × Fits q (length (now new)) × Apart q × Meets p q × Begins q 0 starts × (c < p .n + p .k) ⌝ }
-    ensures { λ _. ⌜ now (new .exit) ≡ runSet (atOf q c) (p .u) (contentByte p q (now (old .entry)) (now (new .entry)) c) (now (new .entry)) ⌝ }
+    ensures { λ _. ⌜ now (new .exit) ≡ runSet (atOf q c) (p .u) (byteStored p q (now (old .entry)) (now (new .entry)) c) (now (new .entry)) ⌝ }
 {
     let n = p.n;
     if c < n {

@@ -39,9 +39,9 @@ abbrev pub unitStart : Layout → ℕ → ℕ → ℕ
 unitStart z g u = spot z g u 0
 
 -- byte o of unit u: of a content what is moved, of a spare zero
-unfoldable pub unitByte : Layout → Plan → List ℕ → ℕ → ℕ → ℕ
-unitByte z P old u o = pick (ltb u (contents z)) (movedByte P old u o) 0
+unfoldable pub unitStored : Layout → Plan → List ℕ → ℕ → ℕ → ℕ
+unitStored z P old u o = pick (ltb u (contents z)) (movedByte P old u o) 0
 
 -- all units of group g are stored, and nothing else
 abbrev pub GroupLaid : Layout → ℕ → Plan → List ℕ → List ℕ → List ℕ → Type 0
-GroupLaid z g P old new new′ = Lays (width z) (z .u) (unitStart z g) (λ u o. true) (unitByte z P old) new new′
+GroupLaid z g P old new new′ = Lays (width z) (z .u) (unitStart z g) (λ u o. true) (unitStored z P old) new new′

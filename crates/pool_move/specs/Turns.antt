@@ -33,12 +33,13 @@ use Rattle.runs.specs.Run.{paint, paint-after}
 use Rattle.runs.specs.Held.{zeroByte}
 use Rattle.runs.specs.Laying.{paint-lays}
 use Rattle.survey.specs.declared.Survey.{Survey}
+use Rattle.survey.specs.Placing.{groupHere}
 use Rattle.survey.specs.Surveyed.{Surveyed, Surveying, spot-plus, fits, apart, held-is}
 use Rattle.group_move.specs.Moved.{always, movedByte, contentsMoved, unitsCleared}
 use Rattle.moving.specs.Fresh.{freshByte, freshImage}
 use Rattle.moving.specs.Moving.{shownFile}
 use Rattle.moving.specs.FreshLaws.{shown-content}
-use Rattle.pool_move.specs.Groups.{Ready, unitStart, unitByte, GroupLaid}
+use Rattle.pool_move.specs.Groups.{Ready, unitStart, unitStored, GroupLaid}
 
 -- ---- the units of a group in the image
 
@@ -63,17 +64,17 @@ module _ (z : Layout) (s : Shape) (g : ℕ) (P : Plan) (w : Survey) (old new : L
   contents-are = λ i. r .n-is i + r .k-is i
 
   -- the contents at their own places
-  moved-here : (new₁ : List ℕ) → new₁ ≡ contentsMoved P Q old (P .n + P .k) new → new₁ ≡ paint always (unitStart z g) (z .u) (unitByte z P old) (contents z) new
-  unfolding contentsMoved unitByte paint
+  moved-here : (new₁ : List ℕ) → new₁ ≡ contentsMoved P Q old (P .n + P .k) new → new₁ ≡ paint always (unitStart z g) (z .u) (unitStored z P old) (contents z) new
+  unfolding contentsMoved unitStored paint
   moved-here new₁ e =
       e
       ∙ (λ i. paint always (atOf Q) (r .u-is i) (movedByte P old) (contents-are i) new)
-      ∙ paint-after always always (unitStart z g) (atOf Q) (z .u) (unitByte z P old) (movedByte P old) 0 new (contents z) (λ c h. refl)
+      ∙ paint-after always always (unitStart z g) (atOf Q) (z .u) (unitStored z P old) (movedByte P old) 0 new (contents z) (λ c h. refl)
       (λ c h. r .own c h ∙ ap (unitStart z g) (sym (none c)))
       (λ c h t. omega (arith, start-inside z (r .valid) g (r .group) (0 + c) (omega arith), r .len-is))
       (λ c h t o k.
-      sym (ap (λ (u : ℕ). unitByte z P old u o) (none c) ∙ pick-true (ltb c (contents z)) _ _ (lt-ltb c (contents z) h)))
-      ∙ ap (λ (m : ℕ). paint always (unitStart z g) (z .u) (unitByte z P old) m new) (none (contents z))
+      sym (ap (λ (u : ℕ). unitStored z P old u o) (none c) ∙ pick-true (ltb c (contents z)) _ _ (lt-ltb c (contents z) h)))
+      ∙ ap (λ (m : ℕ). paint always (unitStart z g) (z .u) (unitStored z P old) m new) (none (contents z))
     where
       none : (c : ℕ) → 0 + c ≡ c
       none c = omega arith
@@ -88,15 +89,15 @@ module _ (z : Layout) (s : Shape) (g : ℕ) (P : Plan) (w : Survey) (old new : L
 
   pub group-laid : (new₁ new₂ spares : List ℕ) → new₁ ≡ contentsMoved P Q old (P .n + P .k) new → ((i : ℕ) → i < z .k → getD spares i 0 ≡ spot z g (contents z + i) 0)
       → new₂ ≡ unitsCleared spares (z .u) (z .k) new₁ → GroupLaid z g P old new new₂
-  unfolding unitsCleared unitByte zeroByte
+  unfolding unitsCleared unitStored zeroByte
   group-laid new₁ new₂ spares e₁ es e₂ =
-      subst (λ (m : ℕ). Lays m (z .u) (unitStart z g) (λ u o. true) (unitByte z P old) new new₂) units
-      (paint-lays always (unitStart z g) (z .u) (unitByte z P old) (contents z + z .k) new new₂
+      subst (λ (m : ℕ). Lays m (z .u) (unitStart z g) (λ u o. true) (unitStored z P old) new new₂) units
+      (paint-lays always (unitStart z g) (z .u) (unitStored z P old) (contents z + z .k) new new₂
       (λ u h t. omega (arith, start-inside z (r .valid) g (r .group) u (omega arith), r .len-is))
       (λ c d x y hc hd. starts-apart z (r .valid) g (r .group) c d x y (omega arith) (omega arith))
       (e₂
       ∙ ap (paint always (λ i. getD spares i 0) (z .u) (λ i. zeroByte) (z .k)) (moved-here new₁ e₁)
-      ∙ paint-after always always (unitStart z g) (λ i. getD spares i 0) (z .u) (unitByte z P old) (λ i. zeroByte) (contents z) new (z .k) (λ i h. refl) es
+      ∙ paint-after always always (unitStart z g) (λ i. getD spares i 0) (z .u) (unitStored z P old) (λ i. zeroByte) (contents z) new (z .k) (λ i h. refl) es
       (λ i h t. omega (arith, start-inside z (r .valid) g (r .group) (contents z + i) (omega arith), r .len-is))
       (λ i h t o k. sym (pick-false (ltb (contents z + i) (contents z)) _ _ (le-ltb (contents z + i) (contents z) (omega arith))))))
     where
@@ -105,7 +106,7 @@ module _ (z : Layout) (s : Shape) (g : ℕ) (P : Plan) (w : Survey) (old new : L
 
 -- ---- the new pool's layout beside the old one's
 
-pub record Twin (y z : Layout) : Type 0 where
+pub record SameShape (y z : Layout) : Type 0 where
   pub valid : Valid z
   pub n-is : z .n ≡ y .n
   pub k-is : z .k ≡ y .k
@@ -115,10 +116,10 @@ pub record Twin (y z : Layout) : Type 0 where
   pub shaped : (s : Shape) → Shaped y s → Shaped z s
   pub offsets-are : (g j o : ℕ) → offsetOf z g j o ≡ offsetOf y g j o
 
-pub twin : (y z : Layout) → Valid y → z ≡ otherEdition y → Twin y z
+pub same-shape : (y z : Layout) → Valid y → z ≡ otherEdition y → SameShape y z
 unfolding otherEdition offsetOf
-twin y z v e =
-    subst⁻¹ (Twin y) e
+same-shape y z v e =
+    subst⁻¹ (SameShape y) e
     (record {
       valid = other-valid y v;
       n-is = refl;
@@ -130,7 +131,7 @@ twin y z v e =
       offsets-are = λ g j o. refl;
     })
 
-module _ (y z : Layout) (t : Twin y z) (R : Record) (old : List ℕ) (sound : Sound y R (length old)) (g : ℕ) (hg : g < allGroups y) (P : Plan) (from : Surveyed y R (R .q) g P) where
+module _ (y z : Layout) (t : SameShape y z) (R : Record) (old : List ℕ) (sound : Sound y R (length old)) (g : ℕ) (hg : g < allGroups y) (P : Plan) (from : Surveyed y R (R .q) g P) where
   -- what is in hand where both surveys are at group g, that of the new pool under an empty list
   pub ready : (s : Shape) → Shaped y s → (N : Record) → N .k ≡ 0 → Good z N → (w : Survey) → Surveying z w → Surveyed z N (N .q) g (w .plan) → (new : ℕ)
       → new ≡ imageLength y → Ready z s g P w (length old) new
@@ -163,8 +164,8 @@ module _ (y z : Layout) (t : Twin y z) (R : Record) (old : List ℕ) (sound : So
       }
 
   -- a byte of a unit that is stored is the new pool's
-  fresh-unit : (u o : ℕ) → o < z .u → unitByte z P old u o ≡ freshByte z (shownFile y R old) g o u
-  unfolding unitByte freshByte movedByte encoded
+  fresh-unit : (u o : ℕ) → o < z .u → unitStored z P old u o ≡ freshByte z (shownFile y R old) g o u
+  unfolding unitStored freshByte movedByte encoded
   fresh-unit u o ho =
       ap (λ (a : ℕ). pick (ltb u (contents z)) a 0)
       ((λ i. content ((from .n-is ∙ sym (t .n-is)) i) (held P old o) u)
@@ -182,28 +183,25 @@ module _ (y z : Layout) (t : Twin y z) (R : Record) (old : List ℕ) (sound : So
 
 -- the bytes of the image by group, unit and unit offset: each belongs to one unit
 module _ (z : Layout) (v : Valid z) where
-  abbrev groupHere : ℕ → ℕ
-  groupHere x = unitHere z x .group
+  abbrev ownUnit : ℕ → ℕ
+  ownUnit x = unitHere z x .unit
 
-  abbrev unitAt : ℕ → ℕ
-  unitAt x = unitHere z x .unit
-
-  pub own-placed : Placed (allGroups z) (width z) (z .u) (imageLength z) (unitStart z) groupHere unitAt (offsetHere z)
+  pub own-placed : Placed (allGroups z) (width z) (z .u) (imageLength z) (unitStart z) (groupHere z) ownUnit (offsetHere z)
   own-placed =
       record {
         inside = λ g u hg hu. start-inside z v g hg u hu;
         group-lt = group-here-lt z v;
         off-lt = λ x h. offset-here-lt z v x;
-        there = λ x h l. sym (spot-plus z (groupHere x) (unitAt x) (offsetHere z x) ∙ spot-here z v x h);
-        group-at = λ g u o hg hu ho. ap groupHere (spot-plus z g u o) ∙ group-there z v g u o hg hu ho;
-        own-at = λ g u o hg hu ho. ap unitAt (spot-plus z g u o) ∙ unit-there′ z v g u o hg hu ho;
+        there = λ x h l. sym (spot-plus z (groupHere z x) (ownUnit x) (offsetHere z x) ∙ spot-here z v x h);
+        group-at = λ g u o hg hu ho. ap (groupHere z) (spot-plus z g u o) ∙ group-there z v g u o hg hu ho;
+        own-at = λ g u o hg hu ho. ap ownUnit (spot-plus z g u o) ∙ unit-there′ z v g u o hg hu ho;
         off-at = λ g u o hg hu ho. ap (offsetHere z) (spot-plus z g u o) ∙ offset-there z v g u o hg hu ho;
       }
 
   -- byte x once the groups below g are moved
   abbrev pub movedTo : List ℕ → List ℕ → ℕ → ℕ → ℕ
   movedTo file new g x =
-      upto (allGroups z) (width z) (z .u) (imageLength z) (unitStart z) groupHere unitAt (offsetHere z) own-placed (λ g u o. true)
+      upto (allGroups z) (width z) (z .u) (imageLength z) (unitStart z) (groupHere z) ownUnit (offsetHere z) own-placed (λ g u o. true)
       (λ img g u o. freshByte z file g o u) 0 new g x
 
 -- the groups below g are moved
@@ -227,7 +225,7 @@ module _ (z : Layout) (file new₀ : List ℕ) where
         len-is = len;
         same = refl;
         done = λ x h.
-            upto-none (allGroups z) (width z) (z .u) (imageLength z) (unitStart z) (groupHere z v) (unitAt z v) (offsetHere z) (own-placed z v) on val 0 new₀ x;
+            upto-none (allGroups z) (width z) (z .u) (imageLength z) (unitStart z) (groupHere z) (ownUnit z v) (offsetHere z) (own-placed z v) on val 0 new₀ x;
       }
 
   module _ (g : ℕ) (new : List ℕ) (b : MovedBelow z file new₀ g new) where
@@ -241,7 +239,7 @@ module _ (z : Layout) (file new₀ : List ℕ) where
           len-is = b .len-is;
           same = l .same ∙ b .same;
           done =
-              sweep-step (allGroups z) (width z) (z .u) (imageLength z) (unitStart z) (groupHere z v) (unitAt z v) (offsetHere z) (own-placed z v) on val 0 g
+              sweep-step (allGroups z) (width z) (z .u) (imageLength z) (unitStart z) (groupHere z) (ownUnit z v) (offsetHere z) (own-placed z v) on val 0 g
               (omega arith) hg new₀ new new′ (λ u o hu ho column. refl) (b .len-is) (b .same) (b .done) l;
         }
 
@@ -249,10 +247,10 @@ module _ (z : Layout) (file new₀ : List ℕ) where
     pub moves-end : g ≡ allGroups z → new ≡ freshImage z file
     unfolding byteAfter freshImage
     moves-end e =
-        upto-done (allGroups z) (width z) (z .u) (imageLength z) (unitStart z) (groupHere z v) (unitAt z v) (offsetHere z) (own-placed z v) on val 0 g new₀ new
+        upto-done (allGroups z) (width z) (z .u) (imageLength z) (unitStart z) (groupHere z) (ownUnit z v) (offsetHere z) (own-placed z v) on val 0 g new₀ new
         (b .len-is) (b .same) (λ h u o hh hu ho s. between-in 0 g h (omega arith) (omega (arith, hh, e))) (b .done)
         ∙ tabulate-ext 0 (length new₀) _ _
         (λ x h.
-        pick-true (both (ltb (unitAt z v x) (width z)) true) _ _
-        (both-hold (ltb (unitAt z v x) (width z)) true (lt-ltb (unitAt z v x) (width z) (unit-here-lt z v x (subst (λ (m : ℕ). x < m) (b .len-is) h))) refl))
+        pick-true (both (ltb (ownUnit z v x) (width z)) true) _ _
+        (both-hold (ltb (ownUnit z v x) (width z)) true (lt-ltb (ownUnit z v x) (width z) (unit-here-lt z v x (subst (λ (m : ℕ). x < m) (b .len-is) h))) refl))
         ∙ ap (λ (m : ℕ). tabulate m (λ x. freshByte z file (unitHere z x .group) (offsetHere z x) (unitHere z x .unit))) (b .len-is)

@@ -6,7 +6,7 @@ use Rattle.numbers.specs.Layouts.{allGroups}
 use Rattle.survey.specs.Surveyed.{Surveying}
 use Rattle.moving.specs.Moving.{shownFile}
 use Rattle.moving.specs.FreshLaws.{unfailed-good}
-use Rattle.pool_move.specs.Turns.{Twin, twin, ready, fresh-group, MovedBelow, moves-begin, moves-turn, moves-end}
+use Rattle.pool_move.specs.Turns.{SameShape, same-shape, ready, fresh-group, MovedBelow, moves-begin, moves-turn, moves-end}
 use Rattle.pool_move.proofs.move_groups.Statement.{statement}
 use Rattle.pool_move.proofs.move_groups.Tie as tie
 
@@ -29,21 +29,21 @@ begin-requires c κs = (c .before .before .before .before .pre .0 .valid, c .bef
 begin-requires-2 : tie.Need-begin-requires-2 Inv-loop μ-loop
 begin-requires-2 c κs =
     let a = c .before .before .before .before .before in
-    let t = twin _ (a .args .z) (a .pre .0 .valid) (a .pre .2) in
+    let t = same-shape _ (a .args .z) (a .pre .0 .valid) (a .pre .2) in
     (t .valid, t .shaped _ (c .before .before .shape-of .ensures))
 
 loop-holds : tie.Need-loop-holds Inv-loop μ-loop
 loop-holds c =
     let a = c .before .before .before .before .before .before in
-    let t = twin _ (a .args .z) (a .pre .0 .valid) (a .pre .2) in
+    let t = same-shape _ (a .args .z) (a .pre .0 .valid) (a .pre .2) in
     (omega arith, c .before .begin .ensures, c .begin2 .ensures, moves-begin _ _ _ (t .valid) (a .pre .1 ∙ sym (t .image-is)))
 
 -- a group, and few of them
 turn : (c : tie.In-loop Inv-loop μ-loop) → (c .before .loop .g < allGroups (c .before .before .before .before .before .before .before .before .args .y)) × (allGroups (c .before .before .before .before .before .before .before .before .args .y) ≤ 4194304)
 turn c = let n = c .before .before .before .before .numbers-of .ensures in (omega (arith, c .loop-test .taken, n .groups-is), omega (arith, n .groups-is, n .groups-few))
 
-beside : (c : tie.In-loop Inv-loop μ-loop) → Twin (c .before .before .before .before .before .before .before .before .args .y) (c .before .before .before .before .before .before .before .before .args .z)
-beside c = let a = c .before .before .before .before .before .before .before .before in twin _ (a .args .z) (a .pre .0 .valid) (a .pre .2)
+beside : (c : tie.In-loop Inv-loop μ-loop) → SameShape (c .before .before .before .before .before .before .before .before .args .y) (c .before .before .before .before .before .before .before .before .args .z)
+beside c = let a = c .before .before .before .before .before .before .before .before in same-shape _ (a .args .z) (a .pre .0 .valid) (a .pre .2)
 
 next-requires : tie.Need-next-requires Inv-loop μ-loop
 next-requires c κs =
@@ -86,7 +86,7 @@ returns : tie.Need-returns Inv-loop μ-loop
 returns c =
     let a = c .before .before .before .before .before .before .before .before in
     let n = c .before .before .before .before .numbers-of .ensures in
-    moves-end _ _ _ _ _ (c .before .loop .inv .3) (omega (arith, c .loop-test .left, c .before .loop .inv .0, n .groups-is, twin _ (a .args .z) (a .pre .0 .valid) (a .pre .2) .groups-are))
+    moves-end _ _ _ _ _ (c .before .loop .inv .3) (omega (arith, c .loop-test .left, c .before .loop .inv .0, n .groups-is, same-shape _ (a .args .z) (a .pre .0 .valid) (a .pre .2) .groups-are))
 
 pub move-groups-spec : {M : Type 1} → statement M
 move-groups-spec =
