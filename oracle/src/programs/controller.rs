@@ -1,11 +1,11 @@
 //! `controller`: repair by our planner's plans and by the row controller's,
 //! beside plain repair, and what other plans are refused with.
 
-use super::row::with_count;
+use super::row::{with_count, Pool};
 use super::{answered, line};
 use crate::layout::{layout, Layout};
 use crate::place::place;
-use crate::pool::{fail, read, repair, write, Record};
+use crate::pool::{read, repair, Record};
 use crate::pool_plan::{check_plan, draw_plan, missing_contents, presence, repair_by};
 
 const ONES: u64 = u64::MAX;
@@ -41,35 +41,11 @@ pub fn output() -> String {
     out
 }
 
-/// The row with units of 8 bytes.
-#[derive(Clone)]
-struct Pool {
-    layout: Layout,
-    record: Record,
-    image: Vec<u8>,
-}
-
 impl Pool {
+    /// The row with units of 8 bytes.
     fn stored() -> Pool {
-        let (layout, record) = (row(8), Record::default());
-        let mut image = vec![0; layout.derived().image as usize];
         let file = b"a brown bag with one strap, 23.4 kg, tag 0042, row eight, desk 3";
-        assert_eq!(file.len() as u64, layout.derived().capacity);
-        assert_eq!(write(&layout, &record, &mut image, 0, file), 0);
-        Pool {
-            layout,
-            record,
-            image,
-        }
-    }
-
-    /// A drive dies, and its bytes become ff.
-    fn lose(&mut self, out: &mut String, drive: usize) {
-        let (refusal, record) = fail(&self.layout, &self.record, &self.image, drive as u64);
-        self.record = record;
-        let length = self.image.len() / self.layout.p as usize;
-        self.image[drive * length..(drive + 1) * length].fill(255);
-        line!(out, "Drive {drive} dies: {}", answered(refusal));
+        Pool::of(row(8), file)
     }
 
     fn repair_by_the_controllers(&mut self, out: &mut String) {

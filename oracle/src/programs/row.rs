@@ -1,13 +1,45 @@
-//! The row of drives that `morning`, `mail`, `session` and `upgrade` speak of.
+//! The row of drives that `morning`, `mail`, `session` and `upgrade` speak of, and
+//! pools of any row, of which `controller` and `upgrade` have several at a time.
 
 use super::{answered, line};
 use crate::layout::{layout, Layout};
-use crate::pool::{fail, repair, Record};
+use crate::pool::{fail, repair, write, Record};
 use crate::pool_count::{audit, panel};
 
 /// N=2 K=1 P=5 and cookie 7, with these units and tiles.
 pub(super) fn row(u: u64, t: u64) -> Layout {
     layout(2, 1, 5, u, t, 7)
+}
+
+/// A pool of any row; what becomes of it is told in an output that it is lent.
+#[derive(Clone)]
+pub(super) struct Pool {
+    pub layout: Layout,
+    pub record: Record,
+    pub image: Vec<u8>,
+}
+
+impl Pool {
+    /// No failures, and this file.
+    pub fn of(layout: Layout, file: &[u8]) -> Pool {
+        assert_eq!(file.len() as u64, layout.derived().capacity);
+        let (record, mut image) = (Record::default(), vec![0; layout.derived().image as usize]);
+        assert_eq!(write(&layout, &record, &mut image, 0, file), 0);
+        Pool {
+            layout,
+            record,
+            image,
+        }
+    }
+
+    /// A drive dies, and its bytes become ff.
+    pub fn lose(&mut self, out: &mut String, drive: usize) {
+        let (refusal, record) = fail(&self.layout, &self.record, &self.image, drive as u64);
+        self.record = record;
+        let length = self.image.len() / self.layout.p as usize;
+        self.image[drive * length..(drive + 1) * length].fill(255);
+        line!(out, "Drive {drive} dies: {}", answered(refusal));
+    }
 }
 
 /// The row with units of 8 bytes and one tile, and what is told of it.

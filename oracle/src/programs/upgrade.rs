@@ -1,12 +1,12 @@
 //! `upgrade`: a row moved to edition 2 and back, also with drives dead, repaired
 //! or not, and what other moves are refused with.
 
-use super::row::{row, with_count};
+use super::row::{row, with_count, Pool};
 use super::{answered, line};
 use crate::draws::checksum;
 use crate::layout::{layout, Layout};
 use crate::place::place;
-use crate::pool::{fail, read, repair, write, Record};
+use crate::pool::{read, repair, write, Record};
 use crate::pool_move::{move_edition, other_edition};
 use crate::pool_text::{text_length, write_text};
 
@@ -38,27 +38,7 @@ pub fn output() -> String {
     out
 }
 
-/// A pool of either edition.
-#[derive(Clone)]
-struct Pool {
-    layout: Layout,
-    record: Record,
-    image: Vec<u8>,
-}
-
 impl Pool {
-    /// No failures, and this file.
-    fn of(layout: Layout, file: &[u8]) -> Pool {
-        assert_eq!(file.len() as u64, layout.derived().capacity);
-        let (record, mut image) = (Record::default(), vec![0; layout.derived().image as usize]);
-        assert_eq!(write(&layout, &record, &mut image, 0, file), 0);
-        Pool {
-            layout,
-            record,
-            image,
-        }
-    }
-
     fn store(&mut self, out: &mut String, offset: u64, bytes: &str) {
         let stored = bytes.as_bytes();
         let refusal = write(&self.layout, &self.record, &mut self.image, offset, stored);
@@ -67,15 +47,6 @@ impl Pool {
             "A kiosk stores {bytes} at {offset}: {}",
             answered(refusal)
         );
-    }
-
-    /// A drive dies, and its bytes become ff.
-    fn lose(&mut self, out: &mut String, drive: usize) {
-        let (refusal, record) = fail(&self.layout, &self.record, &self.image, drive as u64);
-        self.record = record;
-        let length = self.image.len() / self.layout.p as usize;
-        self.image[drive * length..(drive + 1) * length].fill(255);
-        line!(out, "Drive {drive} dies: {}", answered(refusal));
     }
 
     fn mend(&mut self, out: &mut String) {
