@@ -49,11 +49,13 @@ enum splicebell_refusal {
     SPLICEBELL_TOO_MANY_MISSING = 8,   /* more than K units named missing */
     SPLICEBELL_BAD_CATALOGUE = 9,      /* count above the slice, or keys not strictly rising */
     SPLICEBELL_CATALOGUE_FULL = 10,    /* no free slot, and the key is new */
-    SPLICEBELL_NO_SUCH_RECORD = 11,    /* no record of that key, or none that matches in all three */
+    SPLICEBELL_NO_SUCH_RECORD = 11,    /* no record of that key, or none that matches in all three; or a target
+                                        * that is not in the failure list */
     SPLICEBELL_WRONG_LINE = 12,        /* a text that is not the hex lines of a pool of this layout */
     SPLICEBELL_BAD_TRACE = 13,         /* a malformed line of a trace, or a pool too large for a replay */
     SPLICEBELL_WRONG_COUNT = 14,       /* the record's count of missing units is not the true one */
-    SPLICEBELL_BAD_PLAN = 15           /* a plan of repair that is not accepted */
+    SPLICEBELL_BAD_PLAN = 15,          /* a plan of repair that is not accepted */
+    SPLICEBELL_NOT_REPAIRED = 16       /* q is not k: a target cannot be taken back before all are repaired */
 };
 
 /* N data, K parity and K spare units a group, P targets, U bytes a unit, T tiles, the permutations' cookie and
@@ -145,6 +147,11 @@ typedef struct splicebell_repaired {
 typedef struct splicebell_drawn {
     uint64_t refusal, length;
 } splicebell_drawn;
+
+typedef struct splicebell_swapped {
+    uint64_t refusal;
+    splicebell_record record;
+} splicebell_swapped;
 
 /* What the service panel shows: how many units await repair, how many targets have failed, and how many of
  * these have been repaired. */
@@ -317,6 +324,16 @@ splicebell_repaired splicebell_repair_by(splicebell_layout y, splicebell_record 
  * Refusals: 1, 2, 3, 5 (plan_len is less than the plan takes). Refused: the length is 0, no number changes. */
 splicebell_drawn splicebell_draw_plan(splicebell_layout y, splicebell_record r, const uint8_t *image,
                                       size_t image_len, uint64_t *plan, size_t plan_len);
+
+/* Takes back a failed target, whose drive has been swapped for a new one: it leaves the failure list, the
+ * others stay in order, k and q are both one lower, the freed entry is 0, and the count stays what it is. Every
+ * content's bytes go from its old home to its new one; only bytes of new homes change, on the target and on
+ * spares. What the new drive held before does not matter. On a pool that only these calls have changed from
+ * zeros every content is then what encoding the file afresh would put there.
+ * Refusals: 1, 2, 3, 4 (target >= P), 11 (not in the list), 16 (q is not k). Refused: image and record are
+ * unchanged. */
+splicebell_swapped splicebell_swap(splicebell_layout y, splicebell_record r, uint8_t *image, size_t image_len,
+                                   uint64_t target);
 
 /* Moves a pool to the other edition, N, K, P, U, T and cookie kept: y and r are the old pool's. The new image
  * holds the file that reads of the old pool show, missing contents rebuilt, with the parity of that file, all

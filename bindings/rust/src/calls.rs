@@ -139,6 +139,15 @@ pub fn draw_plan(
     unsafe { splicebell_draw_plan(y, r, image.as_ptr(), image.len(), into, room) }
 }
 
+pub fn swap(
+    y: splicebell_layout,
+    r: splicebell_record,
+    image: &mut [u8],
+    target: u64,
+) -> splicebell_swapped {
+    unsafe { splicebell_swap(y, r, image.as_mut_ptr(), image.len(), target) }
+}
+
 pub fn move_edition(
     y: splicebell_layout,
     r: splicebell_record,

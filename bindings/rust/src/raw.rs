@@ -151,6 +151,13 @@ pub struct splicebell_drawn {
 
 #[repr(C)]
 #[derive(Clone, Copy, Debug, Default, PartialEq, Eq)]
+pub struct splicebell_swapped {
+    pub refusal: u64,
+    pub record: splicebell_record,
+}
+
+#[repr(C)]
+#[derive(Clone, Copy, Debug, Default, PartialEq, Eq)]
 pub struct splicebell_counts {
     pub refusal: u64,
     pub waiting: u64,
@@ -317,6 +324,13 @@ extern "C" {
         plan: *mut u64,
         plan_len: usize,
     ) -> splicebell_drawn;
+    pub fn splicebell_swap(
+        y: splicebell_layout,
+        r: splicebell_record,
+        image: *mut u8,
+        image_len: usize,
+        target: u64,
+    ) -> splicebell_swapped;
     pub fn splicebell_move_edition(
         y: splicebell_layout,
         r: splicebell_record,
