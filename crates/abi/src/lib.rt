@@ -23,6 +23,7 @@ use pool_list::ListWritten;
 use pool_look::Shown;
 use pool_plan::Drawn;
 use pool_repair::Repaired;
+use pool_swap::Swapped;
 use pool_text::TextRead;
 use replay_line::FirstLine;
 use replay_line::Played;
@@ -38,6 +39,7 @@ ghost use Rattle.group.specs.Rebuild.{Rebuilding};
 ghost use Rattle.pool.specs.Calls.{Fails, Reads, Writes, Repairs, Prepares, Panels, Audits};
 ghost use Rattle.pool_list.specs.Ranges.{WritesList};
 ghost use Rattle.proposal.specs.Calls.{RepairsBy, ChecksPlan, Draws};
+ghost use Rattle.swapping.specs.Swapping.{Swaps};
 ghost use Rattle.moving.specs.Moving.{Moves};
 ghost use Rattle.entries.specs.Promise.{Lookup, Insert, Delete, Listing};
 ghost use Rattle.hexline.specs.HexLine.{HexLine};
@@ -239,6 +241,13 @@ pub extern "C" fn splicebell_draw_plan(
     ensures { λ x. ⌜ Draws y r (now (image .entry)) (now (plan .entry)) (x .refusal) (x .length) (now (plan .exit)) ⌝ }
 {
     pool_plan::draw_plan(y, r, image, plan)
+}
+
+#[no_mangle]
+pub extern "C" fn splicebell_swap(y: Layout, r: Record, image: &mut [u8], target: u64) -> Swapped
+    ensures { λ x. ⌜ Swaps y r (now (image .entry)) target (x .refusal) (x .rec) (now (image .exit)) ⌝ }
+{
+    pool_swap::swap(y, r, image, target)
 }
 
 #[no_mangle]

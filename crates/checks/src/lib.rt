@@ -1,6 +1,6 @@
 // The tests that the pool's calls make, in the order of document 01's table. Inner: the calls
 // themselves are `pool_read`, `pool_write`, `pool_list`, `pool_fail`, `pool_count`, `pool_repair`,
-// `pool_plan`, `pool_move` and `pool_look`.
+// `pool_plan`, `pool_swap`, `pool_move` and `pool_look`.
 use homes::Record;
 use numbers::Layout;
 use numbers::Numbers;

@@ -83,4 +83,5 @@ unfolding groupMended heldRun
 mend-lays P homes img img′ mend e =
     lays-ext (P .n + P .k) (P .u) (λ c. getD homes c 0) _ _ _ _ img img′ (λ c o hc ho. refl)
     (λ c o hc ho t. let z : 0 + o ≡ o = omega arith in ap (λ (x : ℕ). held P img x c) z)
-    (paint-lays (missOf P) (λ c. getD homes c 0) (P .u) (λ c o. held P img (0 + o) c) (P .n + P .k) img img′ (mend .inside) (mend .apart) e)
+    (paint-lays (missOf P) (λ c. getD homes c 0) (P .u) (λ c o. held P img (0 + o) c) (P .n + P .k) img img′ (mend .inside)
+    (λ c d x y hc hd tc td. mend .apart c d x y hc hd) e)

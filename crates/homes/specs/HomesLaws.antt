@@ -23,6 +23,16 @@ moved-off : (target : ℕ → ℕ) (m K : ℕ) (e : ℕ → ℕ) (i c : ℕ) →
 unfolding homes move
 moved-off target m K e i c ne = pick-false (eqb (target (homes target m K e i c)) (e i)) _ _ (ne-eqb _ _ ne)
 
+-- a home is the content's own unit, or a spare
+pub own-or-spare : (target : ℕ → ℕ) (m K : ℕ) (e : ℕ → ℕ) (j c : ℕ) → (homes target m K e j c ≡ c) ⊎ (m ≤ homes target m K e j c)
+unfolding homes move
+own-or-spare target m K e zero c = inl refl
+own-or-spare target m K e (suc j) c = by (eqb (target (homes target m K e j c)) (e j)) _ _ (own-or-spare target m K e j c)
+  where
+    by : (t : Bool) (s h : ℕ) → (h ≡ c) ⊎ (m ≤ h) → (pick t (m + s) h ≡ c) ⊎ (m ≤ pick t (m + s) h)
+    by true s h before = inr (omega arith)
+    by false s h before = before
+
 module _ (target : ℕ → ℕ) (m K : ℕ) (e : ℕ → ℕ) where
   -- spare i is spoken for: it is a home, or lies on a listed target
   abbrev spoken : ℕ → (ℕ → ℕ) → ℕ → Bool

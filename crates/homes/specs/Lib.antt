@@ -4,6 +4,8 @@ pub mod Homes
 pub mod HomesLaws
 pub mod Records
 pub mod RecordLaws
+pub mod Dropping
+pub mod DroppingLaws
 pub mod Missing
 pub mod MissingLaws
 pub mod Standing

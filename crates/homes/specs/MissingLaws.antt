@@ -58,6 +58,11 @@ module _ (y : Layout) (v : Valid y) (R : Record) (g : ℕ) where
   unfolding home
   home-moves j c lt h on = spare-for (targetAt y g) (contents y) (y .k) (entry R) (units-apart y v g) j lt c h on
 
+  -- so where all that failed are repaired nothing is missing
+  pub repaired-present : R .k ≤ y .k → R .q ≡ R .k → (c : ℕ) → c < contents y → missing y R g c ≡ false
+  unfolding missing
+  repaired-present few all c h = ap (λ (j : ℕ). failed R (targetAt y g (home y R j g c))) all ∙ home-alive (R .k) few c h
+
   -- a present content keeps its home under the whole list
   pub home-stays : R .q ≤ R .k → (c : ℕ) → missing y R g c ≡ false → home y R (R .k) g c ≡ home y R (R .q) g c
   unfolding home missing

@@ -1,11 +1,11 @@
--- What the steps of the code show: of the record's test, of the search for a spare, and of a move.
+-- What the steps of the code show: of the record's test, of the search for a spare, of a move, and of a list with one entry fewer.
 use mathlib.Core.Path.{_≡_, refl, sym, ap, _∙_}
 use mathlib.Core.Bool.{Bool, true, false, not}
 use mathlib.Core.List.{List, [], _∷_}
-use Prim.Native.Nat.{ℕ, _+_, _≤_, _<_}
+use Prim.Native.Nat.{ℕ, _+_, _-_, _≤_, _<_}
 use native.Mathlib.Numerals.{add-one}
 use native.Mathlib.Omega.{arith}
-use borrow.Author.Tests.{lt-leb, le-leb, lt-ltb, le-ltb}
+use borrow.Author.Tests.{lt-leb, le-leb, lt-ltb, le-ltb, eq-eqb, ne-eqb}
 use lib.Dec.{eqb, leb, ltb}
 use Rattle.lists.specs.Pick.{pick, pick-true, pick-false, both-true, both-hold, not-both-ways, clash}
 use Rattle.lists.specs.Search.{any, all, lowest, all-at}
@@ -18,6 +18,7 @@ use Rattle.homes.specs.Listed.{listed}
 use Rattle.homes.specs.Homes.{free, move, homes}
 use Rattle.homes.specs.HomesLaws.{homes-apart}
 use Rattle.homes.specs.Records.{entry, entryGood, recordGood, failuresRefusal, recordRefusal}
+use Rattle.homes.specs.Dropping.{placeIn, skip, entryWithout}
 use Rattle.homes.specs.Standing.{Units, Standing, HomesAre}
 use Rattle.homes.specs.StandingLaws.{move-cong}
 
@@ -118,3 +119,23 @@ module _ (targets failed : List ℕ) (m spares j : ℕ) (s : Standing targets m 
       ∙ move-cong (at targets) (at targets) m spares (at failed) (λ u l. refl) i (at h) (homes (at targets) m spares (at failed) i) are
       (homes-apart (at targets) m spares (at failed) (s .apart) i (omega arith) .below) c b
       ∙ ap (λ (n : ℕ). homes (at targets) m spares (at failed) n c) (sym (add-one i))
+
+-- ---- an entry of the list without the one at `place`
+
+module _ (e : ℕ → ℕ) (last place i : ℕ) where
+  pub beyond-kept : last < i → e i ≡ pick (ltb i last) (e (skip place i)) (pick (eqb i last) 0 (e i))
+  beyond-kept h = sym (simp (le-ltb i last (omega arith), ne-eqb i last (λ (q : i ≡ last). omega arith)))
+
+  pub last-freed : i ≡ last → 0 ≡ pick (ltb i last) (e (skip place i)) (pick (eqb i last) 0 (e i))
+  last-freed h = sym (simp (le-ltb i last (omega arith), eq-eqb i last h))
+
+  pub before-kept : i < last → i < place → e i ≡ pick (ltb i last) (e (skip place i)) (pick (eqb i last) 0 (e i))
+  before-kept h l = sym (simp (lt-ltb i last h, lt-ltb i place l))
+
+  pub after-moved : i < last → place ≤ i → e (i + 1) ≡ pick (ltb i last) (e (skip place i)) (pick (eqb i last) 0 (e i))
+  after-moved h l = ap e (add-one i) ∙ sym (simp (lt-ltb i last h, le-ltb i place l))
+
+pub entry-is : (R : Record) (d place i x : ℕ) → place ≡ placeIn R d
+    → x ≡ pick (ltb i (R .k - 1)) (entry R (skip place i)) (pick (eqb i (R .k - 1)) 0 (entry R i)) → x ≡ entryWithout R d i
+unfolding entryWithout
+entry-is R d place i x e h = h ∙ ap (λ (p : ℕ). pick (ltb i (R .k - 1)) (entry R (skip p i)) (pick (eqb i (R .k - 1)) 0 (entry R i))) e

@@ -2,6 +2,7 @@
 use numbers::Layout;
 ghost use mathlib.Core.Path.{_≡_};
 ghost use Prim.Native.Nat.{ℕ, _+_, _<_, _≤_};
+ghost use lib.Dec.{eqb, ltb};
 ghost use Rattle.lists.specs.Pick.{pick};
 ghost use Rattle.lists.specs.Search.{all, lowest};
 ghost use Rattle.lists.specs.Tabulate.{at};
@@ -9,6 +10,7 @@ ghost use Rattle.numbers.specs.Layouts.{Valid, allContents};
 ghost use Rattle.homes.specs.Listed.{listed};
 ghost use Rattle.homes.specs.Homes.{free, move};
 ghost use Rattle.homes.specs.Records.{entryGood, failuresRefusal, recordRefusal};
+ghost use Rattle.homes.specs.Dropping.{skip, without};
 ghost use Rattle.homes.specs.Standing.{Units, HomesAre, MissingAre, Standing};
 
 // The targets that have failed, in order: the first k entries, of which the first q are repaired.
@@ -82,6 +84,61 @@ pub fn record_refusal(y: Layout, r: Record, contents: u64) -> u64
         return refusal;
     }
     if contents < r.waiting { 3 } else { 0 }
+}
+
+// The place of target t among the first k entries; k where it is not there.
+fn place_of(failed: [u64; 3], k: usize, t: u64) -> usize
+    requires { ⌜ k ≤ 3 ⌝ }
+    ensures { λ r. ⌜ r ≡ lowest (λ i. eqb (at failed i) t) k ⌝ }
+{
+    let mut i: usize = 0;
+    while i < k {
+        if failed[i] == t {
+            return i;
+        }
+        i += 1;
+    }
+    k
+}
+
+// Entry i of the list without the one at `place`; `last` is the last place of the list, which is freed.
+fn entry_without(failed: [u64; 3], last: usize, place: usize, i: usize) -> u64
+    requires { ⌜ (last < 3) × (i < 3) ⌝ }
+    ensures { λ x. ⌜ x ≡ pick (ltb i last) (at failed (skip place i)) (pick (eqb i last) 0 (at failed i)) ⌝ }
+{
+    if last < i {
+        return failed[i];
+    }
+    if i == last {
+        return 0;
+    }
+    if i < place {
+        return failed[i];
+    }
+    failed[i + 1]
+}
+
+// The record once target t, one of the first k entries, has left the list.
+pub fn without(r: Record, t: u64) -> Record
+    requires { ⌜ (0 < r .k) × (r .k ≤ 3) × (0 < r .q) ⌝ }
+    ensures { λ x. ⌜ x ≡ without r t ⌝ }
+{
+    let old = r.failed;
+    let k = r.k;
+    let last = k as usize - 1;
+    let place = place_of(old, k as usize, t);
+    let mut failed = [0u64; 3];
+    let mut i: usize = 0;
+    while i < 3 {
+        failed[i] = entry_without(old, last, place, i);
+        i += 1;
+    }
+    Record {
+        failed,
+        k: k - 1,
+        q: r.q - 1,
+        waiting: r.waiting,
+    }
 }
 
 // Whether unit u is the home of one of m contents.

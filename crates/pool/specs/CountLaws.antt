@@ -1,7 +1,8 @@
 -- A failure raises the missing units by those on its target, a repair leaves none, and they are never more than T·C·(N+K).
-use mathlib.Core.Path.{_≡_, sym, ap, _∙_}
+use mathlib.Core.Path.{_≡_, refl, sym, ap, _∙_}
 use mathlib.Core.Bool.{false}
 use Prim.Native.Nat.{ℕ, suc, _+_, _≤_, _<_}
+use native.Mathlib.Nat.{le-refl}
 use native.Mathlib.Omega.{arith}
 use lib.ListN.{length}
 use lib.Seq.{getD-set-same}
@@ -11,7 +12,7 @@ use Rattle.numbers.specs.declared.Layout.{Layout}
 use Rattle.numbers.specs.Layouts.{Valid, allGroups, contents, allContents}
 use Rattle.homes.specs.declared.Record.{Record}
 use Rattle.homes.specs.Listed.{listed}
-use Rattle.homes.specs.MissingLaws.{unfailed-present}
+use Rattle.homes.specs.MissingLaws.{unfailed-present, repaired-present}
 use Rattle.homes.specs.Once.{listed-more}
 use Rattle.homes.specs.Records.{entry, failed, Good}
 use Rattle.homes.specs.Missing.{targetAt, home, missing}
@@ -21,7 +22,6 @@ use Rattle.pool.specs.Failing.{grown, failRecord}
 use Rattle.pool.specs.Repairing.{mended, repairRecord}
 use Rattle.pool.specs.Asked.{fail-asked, repair-asked}
 use Rattle.pool.specs.FailHolds.{entry-same, home-grown}
-use Rattle.pool.specs.RepairHolds.{none-missing}
 use Rattle.pool.specs.Counting.{missingPairs, missingUnits, TrueCount, homeOn, onTarget}
 
 -- ---- a failure
@@ -44,12 +44,16 @@ module _ (y : Layout) (R : Record) (t : ℕ) (room : R .k < length (R .failed)) 
   unfolding missingUnits onTarget
   fail-raises = fail-raises-below (allGroups y)
 
--- ---- a repair: "sets it to 0"
+-- ---- all that failed are repaired: nothing is missing
 
-pub repair-clears : (y : Layout) (R : Record) → Valid y → Good y R → missingUnits y (mended R) ≡ 0
+pub repaired-clear : (y : Layout) (R : Record) → Valid y → Good y R → R .q ≡ R .k → missingUnits y R ≡ 0
 unfolding missingUnits
-repair-clears y R v good =
-    sum-none _ (allGroups y) (λ g l. count-none (missing y (mended R) g) (contents y) (λ c b. none-missing y R v good g c b))
+repaired-clear y R v good all =
+    sum-none _ (allGroups y) (λ g l. count-none (missing y R g) (contents y) (λ c b. repaired-present y v R g (good .few) all c b))
+
+-- a repair "sets it to 0"
+pub repair-clears : (y : Layout) (R : Record) → Valid y → Good y R → missingUnits y (mended R) ≡ 0
+repair-clears y R v good = repaired-clear y (mended R) v (record { few = good .few; mended = le-refl (R .k); below = good .below; once = good .once }) refl
 
 -- nothing has failed: nothing is missing
 pub unfailed-clear : (y : Layout) (R : Record) → R .k ≡ 0 → missingUnits y R ≡ 0

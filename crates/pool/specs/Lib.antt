@@ -14,6 +14,7 @@ pub mod Calls
 pub mod Asked
 pub mod Otherwise
 pub mod StoringLaws
+pub mod Rounds
 pub mod Holds
 pub mod WriteHolds
 pub mod FailHolds

@@ -1,6 +1,6 @@
 -- A repair keeps what the image holds: missing contents are stored at their new homes, present ones stay at theirs, and nothing is missing
 -- afterwards.
-use mathlib.Core.Path.{_≡_, sym, ap, _∙_, subst}
+use mathlib.Core.Path.{_≡_, refl, sym, ap, _∙_, subst}
 use mathlib.Core.Logic.{⊎-elim}
 use mathlib.Core.Bool.{true, false}
 use mathlib.Core.List.{List, []}
@@ -16,7 +16,7 @@ use Rattle.place.specs.Bytes.{spot}
 use Rattle.homes.specs.declared.Record.{Record}
 use Rattle.homes.specs.Records.{Good}
 use Rattle.homes.specs.Missing.{home, missing}
-use Rattle.homes.specs.MissingLaws.{home-alive, home-stays}
+use Rattle.homes.specs.MissingLaws.{repaired-present, home-stays}
 use Rattle.pool.specs.Contents.{stored, contentByte}
 use Rattle.pool.specs.Refusals.{repairRefusal}
 use Rattle.pool.specs.Repairing.{mendedImage, repairImage, mended, repairRecord}
@@ -28,8 +28,7 @@ use Rattle.pool.specs.FailHolds.{Kept}
 module _ (y : Layout) (R : Record) where
   -- no content is missing afterwards
   pub none-missing : Valid y → Good y R → (g c : ℕ) → c < contents y → missing y (mended R) g c ≡ false
-  unfolding missing home
-  none-missing v r g c hc = home-alive y v (mended R) g (R .k) (r .few) c hc
+  none-missing v r g c hc = repaired-present y v (mended R) g (r .few) refl c hc
 
   -- a refused repair leaves the image
   pub repair-refused : (img : List ℕ) → (repairRefusal y R (length img) ≡ 0 → ⊥) → repairImage y R img ≡ img

@@ -94,7 +94,7 @@ module _ (z : Layout) (s : Shape) (g : ℕ) (P : Plan) (w : Survey) (old new : L
       subst (λ (m : ℕ). Lays m (z .u) (unitStart z g) (λ u o. true) (unitStored z P old) new new₂) units
       (paint-lays always (unitStart z g) (z .u) (unitStored z P old) (contents z + z .k) new new₂
       (λ u h t. omega (arith, start-inside z (r .valid) g (r .group) u (omega arith), r .len-is))
-      (λ c d x y hc hd. starts-apart z (r .valid) g (r .group) c d x y (omega arith) (omega arith))
+      (λ c d x y hc hd tc td. starts-apart z (r .valid) g (r .group) c d x y (omega arith) (omega arith))
       (e₂
       ∙ ap (paint always (λ i. getD spares i 0) (z .u) (λ i. zeroByte) (z .k)) (moved-here new₁ e₁)
       ∙ paint-after always always (unitStart z g) (λ i. getD spares i 0) (z .u) (unitStored z P old) (λ i. zeroByte) (contents z) new (z .k) (λ i h. refl) es

@@ -29,9 +29,10 @@ use Rattle.pool.specs.Changes.{Written, Mended}
 use Rattle.pool.specs.Calls.{Reads, Writes, Fails, Repairs, Prepares, Shows, Panels, Audits}
 use Rattle.proposal.specs.Calls.{RepairsBy}
 use Rattle.proposal.specs.RunningLaws.{plan-count}
+use Rattle.swapping.specs.Swapping.{NewHome, Swaps}
 use Rattle.pool_list.specs.Ranges.{laidRanges, WritesList}
 use Rattle.pool_list.specs.Kept.{WrittenByOne}
-use Rattle.promises.specs.Runs.{Event, write, writeList, fail, repair, repairBy, read, look, scribble, State, start, step, run, laidOn}
+use Rattle.promises.specs.Runs.{Event, write, writeList, fail, repair, repairBy, swap, read, look, scribble, State, start, step, run, laidOn}
 use Rattle.promises.specs.RunLaws.{Inside, started, ran}
 use Rattle.promises.specs.Demand3.{Right, right-from, file-of-run}
 
@@ -48,6 +49,7 @@ Leaves y s (fail target) s′ = (n : ℕ) × Fails y (s .rec) (s .img) target n 
 Leaves y s repair s′ = (n : ℕ) × (count : ℕ) × Repairs y (s .rec) (s .img) n count (s′ .rec) (s′ .img) × (s′ .file ≡ s .file)
 Leaves y s (repairBy plan) s′ =
     (n : ℕ) × (count : ℕ) × RepairsBy y (s .rec) (s .img) plan n count (s′ .rec) (s′ .img) × (s′ .file ≡ s .file)
+Leaves y s (swap target) s′ = (n : ℕ) × Swaps y (s .rec) (s .img) target n (s′ .rec) (s′ .img) × (s′ .file ≡ s .file)
 Leaves y s (read offset size) s′ = (n : ℕ) × (out : List ℕ) × Reads y (s .rec) (s .img) offset size n out × (s′ ≡ s)
 Leaves y s (look room group content) s′ =
     (n : ℕ) × (scratch : List ℕ) × Prepares y (s .rec) (s .img) room group content n scratch
@@ -75,6 +77,7 @@ leaves-step y s (writeList ranges bytes ok) s′ p =
 leaves-step y s (fail target) s′ p = λ i. record { rec = p .1 .rec i; img = p .2 i; file = p .3 i }
 leaves-step y s repair s′ p = λ i. record { rec = p .2 .rec i; img = p .2 .image i; file = p .3 i }
 leaves-step y s (repairBy plan) s′ p = λ i. record { rec = p .2 .rec i; img = p .2 .image i; file = p .3 i }
+leaves-step y s (swap target) s′ p = λ i. record { rec = p .1 .rec i; img = p .1 .image i; file = p .2 i }
 leaves-step y s (read offset size) s′ p = p .3
 leaves-step y s (look room group content) s′ p = p .6
 leaves-step y s (scribble ink) s′ p = λ i. record { rec = p .0 i; img = p .1 i; file = p .2 i }
@@ -92,6 +95,7 @@ step-leaves y s (writeList ranges bytes ok) = (_, _, record { answer = refl; fir
 step-leaves y s (fail target) = (_, record { answer = refl; rec = refl }, refl, refl)
 step-leaves y s repair = (_, _, record { answer = refl; pairs = refl; rec = refl; image = refl }, refl)
 step-leaves y s (repairBy plan) = (_, _, record { answer = refl; pairs = refl; rec = refl; image = refl }, refl)
+step-leaves y s (swap target) = (_, record { answer = refl; rec = refl; image = refl }, refl)
 step-leaves y s (read offset size) = (_, _, record { answer = refl; bytes = refl }, refl)
 step-leaves y s (look room group content) = (_, _, record { answer = refl; bytes = refl }, _, _, record { answer = refl; bytes = refl }, refl)
 step-leaves y s (scribble ink) = (refl, refl, refl)
@@ -134,6 +138,9 @@ pub record OutcomesRight (y : Layout) (s : State) : Type 0 where
       → (x : ℕ) → x < length (s .img) → (at img′ x ≡ at (s .img) x) ⊎ Mended y (s .rec) x
   pub plan-as-repair : (plan : List ℕ) (count : ℕ) (R′ : Record) (img′ : List ℕ) → RepairsBy y (s .rec) (s .img) plan 0 count R′ img′
       → Repairs y (s .rec) (s .img) 0 count R′ img′
+  -- a swap changes "only bytes of new homes"
+  pub swap-changes-only : (target n : ℕ) (R′ : Record) (img′ : List ℕ) → Swaps y (s .rec) (s .img) target n R′ img′
+      → (x : ℕ) → x < length (s .img) → (at img′ x ≡ at (s .img) x) ⊎ NewHome y (s .rec) target x
   -- an audit finds nothing, and the panel shows how many units are missing
   pub audit-finds-none : (n : ℕ) → Audits y (s .rec) (s .img) n → n ≡ 0
   pub panel-shows : (n waiting failed repaired : ℕ) → Panels y (s .rec) (s .img) n waiting failed repaired → (n ≡ 0) × (waiting ≡ missingUnits y (s .rec))
@@ -184,6 +191,8 @@ outcomes-right y s r =
             rec = p .rec ∙ same .1;
             image = p .image ∙ same .0;
           };
+      swap-changes-only = λ target n R′ img′ p x h.
+          subst⁻¹ (λ (l : List ℕ). (at l x ≡ at (s .img) x) ⊎ NewHome y (s .rec) target x) (p .image) (r .swap-only target x h);
       audit-finds-none = λ n p. p .answer ∙ audited y s r;
       panel-shows = λ n waiting failed repaired p. (p .answer ∙ unrefused y s r, p .waits ∙ panelled y s r);
     }

@@ -51,7 +51,8 @@ module _ (y : Layout) (R : Record) (img : List ℕ) where
   unfolding repairRecord
   repair-clears n R′ img′ p = ap (λ (S : Record). S .waiting) (p .rec ∙ grant-yes _ (mended R) R (sym (p .answer)))
 
-  -- "From a true count every call keeps it true": accepted or refused. No other call hands a record back
+  -- "From a true count every call keeps it true": accepted or refused. Of the other calls a repair by a plan (`RepairPlan`)
+  -- and a swap (`SwapDrive`) hand a record back
   pub fail-keeps-true : length (R .failed) ≡ 3 → TrueCount y R → (target n : ℕ) (R′ : Record) → Fails y R img target n R′ → TrueCount y R′
   fail-keeps-true three true target n R′ p = subst⁻¹ (TrueCount y) (p .rec) (C.fail-keeps-true y R (length img) target three true)
 

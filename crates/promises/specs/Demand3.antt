@@ -28,6 +28,8 @@ use Rattle.pool.specs.Changes.{Written, Mended, write-changes, repair-changes}
 use Rattle.proposal.specs.Running.{planRefusal, planImage, planRecord}
 use Rattle.proposal.specs.RunningLaws.{plan-image, plan-record}
 use Rattle.proposal.specs.PlanHolds.{plan-changes}
+use Rattle.swapping.specs.Swapping.{swapImage, NewHome}
+use Rattle.swapping.specs.SwapLaws.{swap-changes}
 use Rattle.pool_list.specs.Ranges.{listImage}
 use Rattle.pool_list.specs.Kept.{WrittenByOne, list-changes}
 use Rattle.promises.specs.Runs.{Event, State, start, run, laidOn}
@@ -58,6 +60,8 @@ pub record Right (y : Layout) (s : State) : Type 0 where
       × (planRecord y (s .rec) (length (s .img)) plan ≡ repairRecord y (s .rec) (length (s .img)))
   -- and after a repair nothing is missing
   pub repaired : (g c : ℕ) → c < contents y → missing y (repairRecord y (s .rec) (length (s .img))) g c ≡ false
+  -- a swap changes "only bytes of new homes .., on d and on unused spares too",
+  pub swap-only : (target x : ℕ) → x < length (s .img) → (at (swapImage y (s .rec) (s .img) target) x ≡ at (s .img) x) ⊎ NewHome y (s .rec) target x
   -- the count of missing units is true
   pub counted : TrueCount y (s .rec)
   -- no call is refused with 1, 2 or 3: its own tests decide
@@ -76,6 +80,7 @@ right y v s a =
       plan-only = λ plan. plan-changes y (s .rec) plan (s .img);
       planned = λ plan z. (plan-image y (s .rec) plan (s .img) (s .file) (a .holds) z, plan-record y (s .rec) (length (s .img)) plan z);
       repaired = λ g c h. all-repaired y (s .rec) (length (s .img)) (inside-sound y v s a) g c h;
+      swap-only = λ target. swap-changes y (s .rec) target (s .img);
       counted = a .counted;
       accepted = sound-passes y (s .rec) (length (s .img)) (inside-sound y v s a);
     }

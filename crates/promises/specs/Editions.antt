@@ -27,7 +27,7 @@ use Rattle.pool.specs.Refusals.{rangeTests, rangeRefusal}
 use Rattle.pool.specs.Reading.{readOut}
 use Rattle.pool.specs.Files.{part, encoded, written}
 use Rattle.pool_list.specs.Ranges.{listTests, laidRanges}
-use Rattle.promises.specs.Runs.{Event, write, writeList, fail, repair, repairBy, read, look, scribble, State, start, run, laidOn}
+use Rattle.promises.specs.Runs.{Event, write, writeList, fail, repair, repairBy, swap, read, look, scribble, State, start, run, laidOn}
 use Rattle.promises.specs.Demand3.{demand-3, file-of-run}
 
 -- ---- what an edition is
@@ -100,6 +100,7 @@ module _ (y : Layout) where
   other-laid file (fail target ∷ es) = other-laid file es
   other-laid file (repair ∷ es) = other-laid file es
   other-laid file (repairBy plan ∷ es) = other-laid file es
+  other-laid file (swap target ∷ es) = other-laid file es
   other-laid file (read offset size ∷ es) = other-laid file es
   other-laid file (look room group content ∷ es) = other-laid file es
   other-laid file (scribble ink ∷ es) = other-laid file es

@@ -1,7 +1,8 @@
 -- "But for the hex line, no answer and no other byte depends on a failed target's bytes or an unused spare's, and no call changes them, except that
 -- repair stores at the spares that become homes." For each call, on any layout, record and image: two images that agree elsewhere give the same
 -- answers and agree elsewhere afterwards. A refusal number, a record, a repair's count and what the panel shows depend on no byte: they take the image's
--- length alone. A list of writes, a proposed plan and a move have their statements in `WriteList`, `RepairPlan` and `MoveEditions`.
+-- length alone. A list of writes, a proposed plan, a swap and a move have their statements in `WriteList`, `RepairPlan`, `SwapDrive` and
+-- `MoveEditions`.
 use mathlib.Core.Path.{_≡_, sym, ap, _∙_}
 use mathlib.Core.Logic.{⊎-elim}
 use mathlib.Core.Bool.{true}

@@ -18,11 +18,13 @@ pub mod HexLine
 pub mod PoolText
 pub mod WriteList
 pub mod RepairPlan
+pub mod SwapDrive
 pub mod MoveEditions
 pub mod Replay
 pub mod Examples
 pub mod TextExamples
 pub mod ListExamples
 pub mod PlanExamples
+pub mod SwapExamples
 pub mod MoveExamples
 pub mod ReplayExamples

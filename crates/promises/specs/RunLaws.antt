@@ -26,10 +26,12 @@ use Rattle.pool.specs.CountLaws.{at-most, unfailed-clear, fail-keeps-true, repa
 use Rattle.pool.specs.Blind.{Agree, write-agree, fail-agree, repair-agree, scribble-agree}
 use Rattle.proposal.specs.Running.{planRecord}
 use Rattle.proposal.specs.PlanHolds.{plan-right, plan-kept, plan-keeps-true, plan-agree}
+use Rattle.swapping.specs.Swapping.{swapRecord}
+use Rattle.swapping.specs.SwapHolds.{swap-right, swap-kept, swap-keeps-true, swap-agree}
 use Rattle.pool_list.specs.Ranges.{listTests, listRefusal, laidRanges}
 use Rattle.pool_list.specs.Kept.{list-agree}
 use Rattle.pool_list.specs.Laid.{list-right}
-use Rattle.promises.specs.Runs.{Event, write, writeList, fail, repair, repairBy, read, look, scribble, State, start, step, run, laidOn, reinked, reink}
+use Rattle.promises.specs.Runs.{Event, write, writeList, fail, repair, repairBy, swap, read, look, scribble, State, start, step, run, laidOn, reinked, reink}
 
 pub record Inside (y : Layout) (s : State) : Type 0 where
   pub kept : Kept y (s .rec)
@@ -79,6 +81,12 @@ stepped y v s a (repairBy plan) =
       holds = plan-right y (s .rec) plan (s .img) (s .file) (a .holds);
       counted = plan-keeps-true y (s .rec) plan (s .img) (a .counted);
     }
+stepped y v s a (swap target) =
+    record {
+      kept = swap-kept y (s .rec) target (length (s .img)) (a .kept);
+      holds = swap-right y (s .rec) target (s .img) (s .file) (a .holds);
+      counted = swap-keeps-true y (s .rec) target (length (s .img)) (a .counted);
+    }
 stepped y v s a (read offset size) = a
 stepped y v s a (look room group content) = a
 stepped y v s a (scribble ink) =
@@ -105,6 +113,7 @@ laid y v (writeList ranges bytes ok ∷ es) s a =
 laid y v (fail target ∷ es) s a = laid y v es (step y s (fail target)) (stepped y v s a (fail target))
 laid y v (repair ∷ es) s a = laid y v es (step y s repair) (stepped y v s a repair)
 laid y v (repairBy plan ∷ es) s a = laid y v es (step y s (repairBy plan)) (stepped y v s a (repairBy plan))
+laid y v (swap target ∷ es) s a = laid y v es (step y s (swap target)) (stepped y v s a (swap target))
 laid y v (read offset size ∷ es) s a = laid y v es s a
 laid y v (look room group content ∷ es) s a = laid y v es s a
 laid y v (scribble ink ∷ es) s a = laid y v es (step y s (scribble ink)) (stepped y v s a (scribble ink))
@@ -140,6 +149,8 @@ twin-step y v s i img′ a ink repair =
     record { rec = ap (repairRecord y (s .rec)) (a .same-length); file = refl; agree = repair-agree y (s .rec) (s .img) img′ a }
 twin-step y v s i img′ a ink (repairBy plan) =
     record { rec = ap (λ (n : ℕ). planRecord y (s .rec) n plan) (a .same-length); file = refl; agree = plan-agree y (s .rec) plan (s .img) img′ a }
+twin-step y v s i img′ a ink (swap target) =
+    record { rec = ap (λ (n : ℕ). swapRecord y (s .rec) n target) (a .same-length); file = refl; agree = swap-agree y (s .rec) target (s .img) img′ a }
 twin-step y v s i img′ a ink (read offset size) = record { rec = refl; file = refl; agree = a }
 twin-step y v s i img′ a ink (look room group content) = record { rec = refl; file = refl; agree = a }
 twin-step y v s i img′ a ink (scribble old) =

@@ -1,7 +1,8 @@
 -- What demand 3 speaks of: events, the state of a pool, and runs. "Start with a pool of zeros and an empty failure list. Make any run of calls, each
 -- given the same layout and the record the last one returned: writes, drive failures up to K, repairs, reads, refused ones of these among them,
--- while others scribble on failed drives only." A list of writes in one call (document 02, order 2) and a repair by a proposed plan (order 7) are calls of
--- such a run too.
+-- while others scribble on failed drives only." A list of writes in one call (document 02, order 2), a repair by a proposed plan (order 7) and a swapped drive
+-- taken back (order 10) are calls of such a run too. With swaps "the limit K is on drives failed at one time, and the new drive's bytes may be anything before
+-- the call": it counts as failed until then, so that what it holds is a scribble.
 use mathlib.Core.List.{List, [], _∷_}
 use Prim.Native.Nat.{ℕ, suc, _<_}
 use lib.ListN.{length}
@@ -17,6 +18,7 @@ use Rattle.pool.specs.Repairing.{repairImage, repairRecord}
 use Rattle.pool.specs.Files.{written}
 use Rattle.pool.specs.Scribbling.{scribbled}
 use Rattle.proposal.specs.Running.{planImage, planRecord}
+use Rattle.swapping.specs.Swapping.{swapImage, swapRecord}
 use Rattle.pool_list.specs.Ranges.{listTests, listRefusal, listImage, laidRanges}
 
 -- an event: a call with any arguments (the bytes of a write and of a list are bytes, the buffer of a read and the scratch of a look have any length, a plan
@@ -29,6 +31,7 @@ pub data Event : Type 0 where
   fail : (target : ℕ) → Event
   repair : Event
   repairBy : (plan : List ℕ) → Event
+  swap : (target : ℕ) → Event
   read : (offset size : ℕ) → Event
   look : (room group content : ℕ) → Event
   scribble : (ink : ℕ → ℕ) → Event
@@ -60,6 +63,7 @@ step y s (writeList ranges bytes ok) =
 step y s (fail target) = record { rec = failRecord y (s .rec) (length (s .img)) target; img = s .img; file = s .file }
 step y s repair = record { rec = repairRecord y (s .rec) (length (s .img)); img = repairImage y (s .rec) (s .img); file = s .file }
 step y s (repairBy plan) = record { rec = planRecord y (s .rec) (length (s .img)) plan; img = planImage y (s .rec) plan (s .img); file = s .file }
+step y s (swap target) = record { rec = swapRecord y (s .rec) (length (s .img)) target; img = swapImage y (s .rec) (s .img) target; file = s .file }
 step y s (read offset size) = s
 step y s (look room group content) = s
 step y s (scribble ink) = record { rec = s .rec; img = scribbled y (s .rec) (s .img) ink; file = s .file }
@@ -77,6 +81,7 @@ laidOn y file (writeList ranges bytes ok ∷ es) =
 laidOn y file (fail target ∷ es) = laidOn y file es
 laidOn y file (repair ∷ es) = laidOn y file es
 laidOn y file (repairBy plan ∷ es) = laidOn y file es
+laidOn y file (swap target ∷ es) = laidOn y file es
 laidOn y file (read offset size ∷ es) = laidOn y file es
 laidOn y file (look room group content ∷ es) = laidOn y file es
 laidOn y file (scribble ink ∷ es) = laidOn y file es
@@ -88,6 +93,7 @@ reinked ink (writeList ranges bytes ok) = writeList ranges bytes ok
 reinked ink (fail target) = fail target
 reinked ink repair = repair
 reinked ink (repairBy plan) = repairBy plan
+reinked ink (swap target) = swap target
 reinked ink (read offset size) = read offset size
 reinked ink (look room group content) = look room group content
 reinked ink (scribble old) = scribble ink

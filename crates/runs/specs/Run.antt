@@ -195,3 +195,14 @@ module _ (on on₂ : ℕ → Bool) (at at₂ : ℕ → ℕ) (len : ℕ) (v v₂ 
       (paint-after k (λ i m. eo i (omega arith)) (λ i m. ea i (omega arith)) (λ i m. b i (omega arith)) (λ i m. h i (omega arith)))
       (λ t. subst (λ (m : ℕ). at (n + k) + len ≤ m) (sym (paint-length on at len v (n + k) l)) (b k (le-refl (suc k)) t)) (h k (le-refl (suc k)))
       ∙ ap (λ (m : ℕ). paint on at len v m l) (let z : suc (n + k) ≡ n + suc k = omega arith in z)
+
+-- runs told by other tests, places and values that agree
+pub paint-same : (on on₂ : ℕ → Bool) (at at₂ : ℕ → ℕ) (len : ℕ) (v v₂ : ℕ → ℕ → ℕ) (l : List ℕ) (n : ℕ) → ((i : ℕ) → i < n → on₂ i ≡ on i)
+    → ((i : ℕ) → i < n → at₂ i ≡ at i) → ((i : ℕ) → i < n → on i ≡ true → at i + len ≤ length l)
+    → ((i : ℕ) → i < n → on i ≡ true → (o : ℕ) → o < len → v₂ i o ≡ v i o) → paint on₂ at₂ len v₂ n l ≡ paint on at len v n l
+unfolding paint
+paint-same on on₂ at at₂ len v v₂ l zero eo ea b h = refl
+paint-same on on₂ at at₂ len v v₂ l (suc n) eo ea b h =
+    one-after (on n) (on₂ n) (at n) (at₂ n) len (v n) (v₂ n) (paint on at len v n l) _ (eo n (le-refl (suc n))) (ea n (le-refl (suc n)))
+    (paint-same on on₂ at at₂ len v v₂ l n (λ i k. eo i (omega arith)) (λ i k. ea i (omega arith)) (λ i k. b i (omega arith)) (λ i k. h i (omega arith)))
+    (λ t. subst (λ (m : ℕ). at n + len ≤ m) (sym (paint-length on at len v n l)) (b n (le-refl (suc n)) t)) (h n (le-refl (suc n)))

@@ -11,6 +11,7 @@ use Rattle.homes.specs.declared.Record.{Record}
 use Rattle.homes.specs.Missing.{home, missing}
 use Rattle.homes.specs.Standing.{TargetsAre}
 use Rattle.survey.specs.declared.Sites.{Sites}
+use Rattle.survey.specs.declared.Shift.{Shift}
 use Rattle.survey.specs.declared.Stand.{Stand}
 
 -- the units of group g
@@ -21,6 +22,11 @@ pub record Sited (y : Layout) (g : ℕ) (x : Sites) : Type 0 where
 -- where each content's home under the first j entries begins
 abbrev pub StartsUnder : Layout → Record → ℕ → ℕ → List ℕ → Type 0
 StartsUnder y R j g at = (c : ℕ) → c < contents y → getD at c 0 ≡ spot y g (home y R j g c) 0
+
+-- the same under the whole lists of two records
+pub record Shifts (y : Layout) (R S : Record) (g : ℕ) (x : Shift) : Type 0 where
+  pub from-are : StartsUnder y R (R .k) g (x .from)
+  pub to-are : StartsUnder y S (S .k) g (x .to)
 
 pub record Stands (y : Layout) (R : Record) (g : ℕ) (x : Stand) : Type 0 where
   pub starts : StartsUnder y R (R .q) g (x .at)

@@ -14,7 +14,7 @@ use Rattle.parity.specs.Matrix.{flag}
 use Rattle.homes.specs.declared.Record.{Record}
 use Rattle.homes.specs.Records.{failed, Good}
 use Rattle.homes.specs.Missing.{targetAt, home, missing}
-use Rattle.homes.specs.MissingLaws.{home-own, home-lt, home-alive}
+use Rattle.homes.specs.MissingLaws.{home-own, home-lt, repaired-present}
 use Rattle.homes.specs.Standing.{HomesAre}
 use Rattle.homes.specs.StandingLaws.{homes-are}
 use Rattle.pool.specs.Holds.{solvable}
@@ -84,13 +84,10 @@ own-stands y R g none x starts flags =
 -- where all failed targets are repaired nothing is missing, since no home under the whole list lies on one of them
 module _ (y : Layout) (v : Valid y) (R : Record) (good : Good y R) (g : ℕ) (at : List ℕ) where
   pub mended-stands : R .q ≡ R .k → StartsUnder y R (R .k) g at → Stands y R g (record { at = at; missing = replicate 19 false })
-  unfolding missing
   mended-stands all starts =
       record {
         starts = subst⁻¹ (λ (j : ℕ). StartsUnder y R j g at) all starts;
-        flags = λ c b.
-            getD-replicate 19 c false false (omega (arith, b, v .few-data, v .few-parity))
-            ∙ sym (ap (λ (j : ℕ). failed R (targetAt y g (home y R j g c))) all ∙ home-alive y v R g (R .k) (good .few) c b);
+        flags = λ c b. getD-replicate 19 c false false (omega (arith, b, v .few-data, v .few-parity)) ∙ sym (repaired-present y v R g (good .few) all c b);
       }
 
   -- so it is where none has failed, and each content is at its own unit

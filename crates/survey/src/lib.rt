@@ -16,7 +16,7 @@ ghost use Rattle.place.specs.Bytes.{spot};
 ghost use Rattle.homes.specs.Standing.{InTile};
 ghost use Rattle.homes.specs.Records.{failed, Good};
 ghost use Rattle.homes.specs.Missing.{targetAt};
-ghost use Rattle.survey.specs.Starts.{Sited, StartsUnder, Stands};
+ghost use Rattle.survey.specs.Starts.{Sited, StartsUnder, Shifts, Stands};
 ghost use Rattle.survey.specs.Surveyed.{Surveyed, Surveying};
 
 // The target of each unit of a group, and where the unit begins in the image.
@@ -164,6 +164,32 @@ pub fn new_starts(y: Layout, s: Shape, r: Record, to: &[u8; 64], g: u64) -> [usi
     let starts = sites.starts;
     let homes = homes::homes_of(targets, m, spares, failed, k);
     home_starts(starts, homes, m)
+}
+
+// Where a group's contents begin under one record, and where under another.
+pub struct Shift {
+    pub from: [usize; 19],
+    pub to: [usize; 19],
+}
+
+// Both records with their whole lists: the units are looked for once.
+pub fn shift_of(y: Layout, s: Shape, r: Record, other: Record, to: &[u8; 64], g: u64) -> Shift
+    requires { ⌜ Good y r × Good y other × InTile y s (now to) g ⌝ }
+    ensures { λ x. ⌜ Shifts y r other g x ⌝ }
+{
+    let spares = y.k as usize;
+    let m = (y.n + y.k) as usize;
+    let sites = sites_of(y, s, to, g);
+    let targets = sites.targets;
+    let starts = sites.starts;
+    let old_list = r.failed;
+    let new_list = other.failed;
+    let old = homes::homes_of(targets, m, spares, old_list, r.k as usize);
+    let new = homes::homes_of(targets, m, spares, new_list, other.k as usize);
+    Shift {
+        from: home_starts(starts, old, m),
+        to: home_starts(starts, new, m),
+    }
 }
 
 // The tile whose permutation is in hand, and the plan of the group last looked at.

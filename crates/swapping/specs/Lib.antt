@@ -1,0 +1,5 @@
+pub mod Swapping
+pub mod SwapLaws
+pub mod SwapHolds
+pub mod SwapBack
+pub mod SwapUnread
