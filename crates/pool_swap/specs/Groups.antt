@@ -9,7 +9,7 @@ use Rattle.lists.specs.Pick.{eqb-iff}
 use Rattle.lists.specs.Count.{count-same}
 use Rattle.lists.specs.Lays.{Lays}
 use Rattle.numbers.specs.declared.Layout.{Layout}
-use Rattle.numbers.specs.Layouts.{Valid, width, allGroups, contents, imageLength}
+use Rattle.numbers.specs.Layouts.{Valid, width, allGroups, contents}
 use Rattle.place.specs.Bytes.{spot, unitHere}
 use Rattle.place.specs.ByteLaws.{unit-there′}
 use Rattle.homes.specs.declared.Record.{Record}

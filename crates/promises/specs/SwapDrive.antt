@@ -21,7 +21,7 @@ use Rattle.homes.specs.Dropping.{placeIn, entryWithout, without}
 use Rattle.homes.specs.DroppingLaws as D
 use Rattle.homes.specs.Missing.{home, missing}
 use Rattle.homes.specs.MissingLaws.{home-own}
-use Rattle.pool.specs.Contents.{homeSpot, stored}
+use Rattle.pool.specs.Contents.{stored}
 use Rattle.pool.specs.Counting.{TrueCount}
 use Rattle.pool.specs.Refusals.{failRefusal, repairRefusal}
 use Rattle.pool.specs.Failing.{grown, failRecord}

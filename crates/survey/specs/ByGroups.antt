@@ -8,7 +8,7 @@ use native.Mathlib.Omega.{arith}
 use borrow.Author.Tests.{lt-ltb, le-ltb, ltb-true, eqb-true, eq-eqb, ne-eqb}
 use lib.Dec.{ltb, eqb}
 use lib.ListN.{length}
-use Rattle.lists.specs.Pick.{pick, both, pick-true, pick-false, both-true, equal-or-not, below-or-not}
+use Rattle.lists.specs.Pick.{both, pick-true, pick-false, both-true, equal-or-not, below-or-not}
 use Rattle.lists.specs.Tabulate.{at, tabulated}
 use Rattle.lists.specs.Lays.{Lays}
 use Rattle.lists.specs.Sweep.{lays-at}
@@ -31,7 +31,8 @@ onBelow g on h o c = both (ltb h g) (on h o c)
 abbrev pub storedBelow : Layout → Record → ℕ → (ℕ → ℕ → ℕ → Bool) → (ℕ → ℕ → ℕ → ℕ) → List ℕ → ℕ → List ℕ
 storedBelow y R j on val img g = storing y R j (onBelow g on) val img
 
-module _ (y : Layout) (v : Valid y) (R : Record) (j : ℕ) (le : j ≤ y .k) (on : ℕ → ℕ → ℕ → Bool) (val : ℕ → ℕ → ℕ → ℕ) (img : List ℕ) (len : length img ≡ imageLength y) where
+module _ (y : Layout) (v : Valid y) (R : Record) (j : ℕ) (le : j ≤ y .k) (on : ℕ → ℕ → ℕ → Bool) (val : ℕ → ℕ → ℕ → ℕ) (img : List ℕ)
+    (len : length img ≡ imageLength y) where
   below-length : (g : ℕ) → length (storedBelow y R j on val img g) ≡ length img
   below-length g = storing-length y R j (onBelow g on) val img
 

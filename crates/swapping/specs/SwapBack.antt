@@ -2,7 +2,7 @@
 -- every home holds what it held, and reads are as before. Where the list was empty, that is every content at its own place.
 use mathlib.Core.Path.{_≡_, refl, sym, ap, _∙_, subst}
 use mathlib.Core.Bool.{true}
-use mathlib.Core.List.{List, []}
+use mathlib.Core.List.{List}
 use Prim.Native.Nat.{ℕ, suc, _-_, _≤_, _<_}
 use native.Mathlib.Nat.{le-refl}
 use native.Mathlib.Omega.{arith}
@@ -36,7 +36,7 @@ use Rattle.pool.specs.Holds.{Holds, read-right}
 use Rattle.pool.specs.FailHolds.{Kept, entry-same, fail-right, fail-kept, fail-listed}
 use Rattle.pool.specs.RepairHolds.{repair-right, repair-kept, repair-length}
 use Rattle.pool.specs.ScribbleHolds.{scribble-right, scribble-length}
-use Rattle.swapping.specs.Swapping.{swapRefusal, swapImage, swapRecord}
+use Rattle.swapping.specs.Swapping.{swapRefusal, swapImage}
 use Rattle.swapping.specs.SwapLaws.{SwapAsked, swap-granted, swap-record}
 use Rattle.swapping.specs.SwapHolds.{swap-right}
 

@@ -21,7 +21,7 @@ use Rattle.pool.specs.ScribbleHolds.{scribble-any, scribble-right}
 use Rattle.pool.specs.Blind.{Agree}
 use Rattle.pool.specs.Elsewhere.{AgreeElsewhere, agree-of, elsewhere-of}
 use Rattle.swapping.specs.Swapping.{swapRefusal, swapImage, swapRecord}
-use Rattle.swapping.specs.SwapLaws.{SwapAsked, swap-asked, less-good, less-repaired, none-before, swap-refused, swap-length, stored-swapped}
+use Rattle.swapping.specs.SwapLaws.{swap-asked, less-good, less-repaired, none-before, swap-refused, swap-length, stored-swapped}
 
 module _ (y : Layout) (R : Record) (d : ℕ) where
   -- ".. which on a pool that demand 3 can reach is what encoding afresh would put there"

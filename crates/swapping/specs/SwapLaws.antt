@@ -1,29 +1,28 @@
 -- What a swap was given once it is accepted, what it stores, and what it changes. On any image whatsoever.
 use mathlib.Core.Path.{_≡_, refl, sym, ap, _∙_, subst}
 use mathlib.Core.Logic.{_⊎_, inl, inr, ⊎-elim}
-use mathlib.Core.Bool.{Bool, true, false, not}
-use mathlib.Core.List.{List, [], _∷_}
-use Prim.Native.Nat.{ℕ, suc, _+_, _-_, _≤_, _<_}
+use mathlib.Core.Bool.{true, false, not}
+use mathlib.Core.List.{List}
+use Prim.Native.Nat.{ℕ, _-_, _≤_, _<_}
 use native.Mathlib.Nat.{zero-add}
 use native.Mathlib.Omega.{arith}
 use borrow.Author.Tests.{ltb-true, eqb-true, lt-ltb, eq-eqb}
-use lib.Dec.{eqb, ltb, leb}
+use lib.Dec.{eqb}
 use lib.ListN.{length}
-use Rattle.lists.specs.Pick.{pick-true, pick-false, either-way, clash, equal-or-not}
+use Rattle.lists.specs.Pick.{either-way, clash, equal-or-not}
 use Rattle.lists.specs.Count.{count, count-weaker}
-use Rattle.lists.specs.Tabulate.{at, length-tabulate}
-use Rattle.lists.specs.Refusal.{LowestThatApplies, refusalBy, grant-yes, grant-no, refusal-lowest, refusal-none}
+use Rattle.lists.specs.Tabulate.{at}
+use Rattle.lists.specs.Refusal.{LowestThatApplies, grant-yes, grant-no, refusal-lowest, refusal-none}
 use Rattle.numbers.specs.declared.Layout.{Layout}
-use Rattle.numbers.specs.Layouts.{Valid, allGroups, contents, allContents, imageLength}
-use Rattle.numbers.specs.Refused.{validb}
+use Rattle.numbers.specs.Layouts.{allGroups, contents}
 use Rattle.place.specs.Bytes.{spot, targetHere, unitHere}
 use Rattle.place.specs.ByteLaws.{target-there, unit-there′}
 use Rattle.homes.specs.declared.Record.{Record}
 use Rattle.homes.specs.Listed.{listed}
 use Rattle.homes.specs.Homes.{homes}
 use Rattle.homes.specs.HomesLaws.{own-or-spare, homes-stay, on-listed}
-use Rattle.homes.specs.Records.{entry, failed, recordGood, Good}
-use Rattle.homes.specs.Dropping.{entryWithout, without}
+use Rattle.homes.specs.Records.{entry, failed, Good}
+use Rattle.homes.specs.Dropping.{without}
 use Rattle.homes.specs.DroppingLaws.{without-good, without-shorter, alive-stays, others-stay}
 use Rattle.homes.specs.Missing.{targetAt, home, missing}
 use Rattle.homes.specs.MissingLaws.{units-apart, home-lt, repaired-present}

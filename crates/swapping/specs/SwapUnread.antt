@@ -1,7 +1,7 @@
 -- "entries from k on are never read", of a swap: two records that agree on k, q, the count and the first k entries make it answer the same and leave the same
 -- image, and the records that come back agree likewise.
 use mathlib.Core.Path.{_≡_, refl, sym, ap, _∙_}
-use mathlib.Core.Bool.{Bool, true}
+use mathlib.Core.Bool.{true}
 use mathlib.Core.List.{List, [], _∷_}
 use Prim.Native.Nat.{ℕ, _-_, _≤_, _<_}
 use native.Mathlib.Omega.{arith}
@@ -15,8 +15,8 @@ use Rattle.homes.specs.Records.{entry, failed}
 use Rattle.homes.specs.Dropping.{placeIn, skip, without}
 use Rattle.homes.specs.DroppingLaws.{entry-without, skip-few}
 use Rattle.pool.specs.Unread.{Alike, grant-same, alike-after, homes-unread, stored-unread, storing-unread, own-unread}
-use Rattle.swapping.specs.Swapping.{swapTests, swapRefusal, swapImage, swapRecord}
-use Rattle.swapping.specs.SwapLaws.{SwapAsked, swap-asked, few-entries, less-good}
+use Rattle.swapping.specs.Swapping.{swapRefusal, swapImage, swapRecord}
+use Rattle.swapping.specs.SwapLaws.{swap-asked, few-entries, less-good}
 
 module _ (y : Layout) (R R′ : Record) (alike : Alike R R′) (d : ℕ) where
   listed-unread : failed R d ≡ failed R′ d

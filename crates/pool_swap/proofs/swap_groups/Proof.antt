@@ -5,7 +5,6 @@ use native.Mathlib.Omega.{arith}
 use borrow.Author.Needs.{needs}
 use lib.ListN.{length}
 use Rattle.numbers.specs.Layouts.{allGroups}
-use Rattle.numbers.specs.Shapes.{layout-products}
 use Rattle.place.specs.Places.{tilePermutation}
 use Rattle.homes.specs.Records.{Good}
 use Rattle.swapping.specs.SwapLaws.{few-entries, some-entry, less-good}
