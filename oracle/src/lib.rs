@@ -17,6 +17,7 @@ pub mod pool_count;
 pub mod pool_list;
 pub mod pool_move;
 pub mod pool_plan;
+pub mod pool_swap;
 pub mod pool_text;
 pub mod programs;
 pub mod replay;

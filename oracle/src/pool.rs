@@ -337,6 +337,7 @@ mod tests {
     use crate::draws::Draws;
     use crate::layout::layout;
     use crate::pool_count::audit;
+    use crate::pool_swap::swap;
 
     /// A pool beside the file that it should hold.
     struct Beside {
@@ -358,7 +359,7 @@ mod tests {
 
         fn event(&mut self, draws: &mut Draws) {
             let (layout, record) = (&self.layout, &self.record);
-            match draws.draw(6) {
+            match draws.draw(9) {
                 0..=2 => {
                     let at = draws.draw(self.file.len() as u64) as usize;
                     let length = draws.draw((self.file.len() - at) as u64 + 1) as usize;
@@ -367,7 +368,11 @@ mod tests {
                     assert_eq!(write(layout, record, &mut self.image, at as u64, bytes), 0);
                 }
                 3 => self.record = fail(layout, record, &self.image, draws.draw(layout.p)).1,
-                4 => self.record = repair(layout, record, &mut self.image).1,
+                4 | 5 => self.record = repair(layout, record, &mut self.image).1,
+                6 | 7 => {
+                    let target = record.failed[draws.draw(3) as usize];
+                    self.record = swap(layout, record, &mut self.image, target).1;
+                }
                 _ => {
                     let size = self.image.len() / layout.p as usize;
                     for target in record.listed() {
@@ -410,7 +415,7 @@ mod tests {
             let p = n + 2 * k + draws.draw(4);
             let shape = layout(n, k, p, 1 + draws.draw(5), 1 + draws.draw(3), draws.high());
             let mut pool = Beside::new(shape.in_edition(1 + draws.draw(2)));
-            for _ in 0..25 {
+            for _ in 0..40 {
                 pool.event(&mut draws);
                 pool.check();
             }

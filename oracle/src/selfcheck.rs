@@ -1,11 +1,12 @@
 //! Document 01's checked examples, starred or not, and of document 02 the order
 //! that order 5 gives to files, the count of order 6, the plans of order 7, the
-//! editions of order 8 and the moves of order 9, as checks of this library.
+//! editions of order 8, the moves of order 9 and the swapped drives of order 10,
+//! as checks of this library.
 
 use crate::catalogue::{listing, lookup, refusal, Listed, Record as Entry, Wide};
 use crate::draws::Draws;
 use crate::field::multiply;
-use crate::group::{coefficient, encode, rebuild};
+use crate::group::{coefficient, encode, encoded, rebuild};
 use crate::hexline::hex_line;
 use crate::layout::{layout, range_refusal, Layout};
 use crate::permutation::{advance, begin, inverse, permutation, start};
@@ -15,6 +16,7 @@ use crate::pool_count::{audit, missing_units, most_missing, panel, Counts, WRONG
 use crate::pool_list::write_list;
 use crate::pool_move::{move_edition, other_edition};
 use crate::pool_plan::{check_plan, draw_plan, repair_by, BAD_PLAN};
+use crate::pool_swap::{swap, NOT_REPAIRED};
 use crate::pool_text::{read_text, write_text};
 use crate::replay::{first_line, play_line, replay, Event};
 
@@ -22,7 +24,7 @@ use crate::replay::{first_line, play_line, replay, Event};
 pub type Check = (&'static str, fn() -> bool);
 
 /// All of them.
-pub const CHECKS: [Check; 41] = [
+pub const CHECKS: [Check; 47] = [
     ("N=4 K=2 P=20: W=8, B=40, L=2, C=5", wide_layout),
     ("N=1 K=0 P=1: L=1, C=1", least_layout),
     ("N=16 K=3: P=22 accepted, P=21 refused 1", tight_layout),
@@ -144,6 +146,30 @@ pub const CHECKS: [Check; 41] = [
     (
         "order 9: a refused move is the lowest of 1, 2, 3 and leaves zeros",
         refused_moves,
+    ),
+    (
+        "order 10: target 3 failed, repaired and taken back, the row is as before",
+        swap_of_failing_three,
+    ),
+    (
+        "order 10: list [d,a] has the data on e, and on d once d is back",
+        data_goes_to_a_lower_spare,
+    ),
+    (
+        "order 10: list [a,b] has contents 0, 1 on d, e, and content 1 on d once a is back",
+        one_home_is_anothers_old_one,
+    ),
+    (
+        "order 10: the others stay in order, the freed entry is 0, count and later entries stay",
+        records_of_swaps,
+    ),
+    (
+        "order 10: over the years every content is what encoding the file afresh gives",
+        years,
+    ),
+    (
+        "order 10: a refused swap is the lowest of 1, 2, 3, 4, 11, 16 and changes nothing",
+        refused_swaps,
     ),
 ];
 
@@ -412,9 +438,10 @@ fn counts_stay_true() -> bool {
 
 fn after_a_call(draws: &mut Draws, shape: &Layout, record: &Record, image: &mut [u8]) -> Record {
     let target = draws.draw(shape.p + 1);
-    let line = match draws.draw(6) {
+    let line = match draws.draw(8) {
         0 => return repair(shape, record, image).1,
         1..=3 => return fail(shape, record, image, target).1,
+        6 | 7 => return swap(shape, record, image, record.failed[0]).1,
         4 => Event::Fail {
             target: target as u8,
         },
@@ -576,9 +603,10 @@ fn answers_of_places(shape: &Layout) -> Vec<u64> {
     ]
 }
 
-/// And those with one, each from no failures on.
+/// And those with one, each from no failures on, but for a swap.
 fn answers_of_pools(shape: &Layout) -> Vec<u64> {
     let (none, mut image, mut unit) = (Record::default(), [0; 48], [0; 4]);
+    let mended = listed([3, 0, 0], 1);
     vec![
         read(shape, &none, &image, 0, &mut [9]),
         write(shape, &none, &mut image, 0, &[9]),
@@ -593,6 +621,7 @@ fn answers_of_pools(shape: &Layout) -> Vec<u64> {
         repair_by(shape, &none, &mut image, &[]).0,
         draw_plan(shape, &none, &image, &mut []).0,
         move_edition(shape, &none, &image, &mut [9; 48]),
+        swap(shape, &mended, &mut image, 3).0,
     ]
 }
 
@@ -775,6 +804,169 @@ fn refused_moves() -> bool {
         && answers(&good, &counted(0), [48, 0], 2)
         && answers(&good, &bad, [48, 48], 3)
         && answers(&good, &counted(9), [48, 48], 3)
+}
+
+/// A record of k failed targets, all repaired.
+fn listed(failed: [u64; 3], k: u64) -> Record {
+    Record {
+        failed,
+        k,
+        q: k,
+        waiting: 0,
+    }
+}
+
+/// What lay on target 3 comes back to it; the spares that stood in keep what
+/// they hold, since they are no new homes.
+fn swap_of_failing_three() -> bool {
+    let (shape, record, mut image) = three_failed();
+    let mended = repair(&shape, &record, &mut image).1;
+    let mut wanted = example_stored();
+    wanted[32..36].copy_from_slice(b"89ab");
+    wanted[8..12].copy_from_slice(b"cdef");
+    // Frame 0 of target 3 is a spare that no content needs.
+    wanted[36..40].fill(0x55);
+    image[36..].fill(0x55);
+    let (refusal, after) = swap(&shape, &mended, &mut image, 3);
+    (refusal, after) == (0, Record::default()) && image == wanted
+}
+
+/// One group of N=1 K=2 with units on targets a b c d e, its units written `abcde`,
+/// each a byte, as all of them stand after a swap under a list of two units'
+/// targets, the unit of the target that comes back last.
+fn units_after(list: [usize; 2], back: usize) -> [u8; 5] {
+    let shape = layout(1, 2, 5, 1, 1, 0);
+    let begins = |unit| place(&shape, 0, unit).1.begins as usize;
+    let targets = unit_targets(&shape, 0);
+    let mut image = [0; 5];
+    for unit in 0..5 {
+        image[begins(unit)] = b"abcde"[unit as usize];
+    }
+    let record = listed([targets[list[0]], targets[list[1]], 0], 2);
+    swap(&shape, &record, &mut image, targets[back]);
+    [0, 1, 2, 3, 4].map(|unit| image[begins(unit)])
+}
+
+fn data_goes_to_a_lower_spare() -> bool {
+    units_after([3, 0], 3) == *b"abcee" && units_after([3, 0], 0) == *b"ebcde"
+}
+
+/// Content 0 comes home from d, and content 1 goes to d from e.
+fn one_home_is_anothers_old_one() -> bool {
+    units_after([0, 1], 0) == *b"dbcee"
+        && units_after([0, 1], 1) == *b"aecde"
+        && units_after([1, 0], 1) == *b"adcee"
+}
+
+fn records_of_swaps() -> bool {
+    let shape = layout(1, 3, 7, 1, 1, 0);
+    let after = |record: Record, target| swap(&shape, &record, &mut [7; 7], target);
+    let with_3 = |record| Record {
+        waiting: 3,
+        ..record
+    };
+    let full = listed([5, 6, 4], 3);
+    after(full, 5) == (0, listed([6, 4, 0], 2))
+        && after(full, 6) == (0, listed([5, 4, 0], 2))
+        && after(full, 4) == (0, listed([5, 6, 0], 2))
+        && after(listed([5, 6, u64::MAX], 2), 5) == (0, listed([6, 0, u64::MAX], 1))
+        && after(with_3(listed([5, 9, 5], 1)), 5) == (0, with_3(listed([0, 9, 5], 0)))
+}
+
+/// A row beside the file that it should hold.
+struct Beside {
+    shape: Layout,
+    record: Record,
+    image: Vec<u8>,
+    file: Vec<u8>,
+}
+
+impl Beside {
+    fn drawn(draws: &mut Draws) -> Beside {
+        let (n, k) = (1 + draws.draw(4), 1 + draws.draw(3));
+        let p = n + 2 * k + draws.draw(4);
+        let shape = layout(n, k, p, 1 + draws.draw(3), 1 + draws.draw(2), draws.high())
+            .in_edition(1 + draws.draw(2));
+        Beside {
+            shape,
+            record: Record::default(),
+            image: vec![0; shape.derived().image as usize],
+            file: vec![0; shape.derived().capacity as usize],
+        }
+    }
+
+    /// A write, drives that die up to K, a repair, and some of the list taken
+    /// back in any order, with other bytes on every drive of it before.
+    fn year(&mut self, draws: &mut Draws) {
+        let at = draws.draw(self.file.len() as u64) as usize;
+        draws.fill(&mut self.file[at..]);
+        let (shape, bytes) = (&self.shape, &self.file[at..]);
+        write(shape, &self.record, &mut self.image, at as u64, bytes);
+        for _ in 0..1 + draws.draw(shape.k) {
+            self.record = fail(shape, &self.record, &self.image, draws.draw(shape.p)).1;
+        }
+        self.record = repair(shape, &self.record, &mut self.image).1;
+        let length = self.image.len() / shape.p as usize;
+        for _ in 0..1 + draws.draw(self.record.k) {
+            for target in self.record.listed() {
+                draws.fill(&mut self.image[*target as usize * length..][..length]);
+            }
+            let back = self.record.listed()[draws.draw(self.record.k) as usize];
+            self.record = swap(shape, &self.record, &mut self.image, back).1;
+        }
+    }
+
+    /// Whether every content, at its home, is what encoding the file afresh gives.
+    fn is_afresh(&self) -> bool {
+        let (shape, u) = (&self.shape, self.shape.u as usize);
+        let groups = self.file.chunks(shape.n as usize * u);
+        (0..).zip(groups).all(|(group, file)| {
+            let data: Vec<Vec<u8>> = file.chunks(u).map(<[u8]>::to_vec).collect();
+            let contents = shape.contents() as usize;
+            let homes = homes(contents, &unit_targets(shape, group), self.record.listed());
+            (0..contents).all(|content| {
+                let begins = place(shape, group, homes[content] as u64).1.begins as usize;
+                self.image[begins..begins + u] == encoded(&data, content)
+            })
+        })
+    }
+}
+
+fn years() -> bool {
+    let mut draws = Draws::new(1010);
+    (0..60).all(|_| {
+        let mut row = Beside::drawn(&mut draws);
+        (0..12).all(|_| {
+            row.year(&mut draws);
+            row.is_afresh() && audit(&row.shape, &row.record, &row.image) == 0
+        })
+    })
+}
+
+fn refused_swaps() -> bool {
+    let shape = layout(1, 2, 5, 1, 1, 0);
+    let answers = |shape: &Layout, record: &Record, length: usize, target, wanted| {
+        let mut image = vec![7; length];
+        let answer = swap(shape, record, &mut image, target);
+        answer == (wanted, *record) && image == vec![7; length]
+    };
+    let (flat, waits) = (
+        Layout { u: 0, ..shape },
+        Record {
+            q: 1,
+            ..listed([3, 0, 2], 2)
+        },
+    );
+    let bad = Record { q: 3, ..waits };
+    answers(&flat, &bad, 4, 5, 1)
+        && answers(&shape, &bad, 4, 5, 2)
+        && answers(&shape, &bad, 5, 5, 3)
+        && answers(&shape, &waits, 5, 5, 4)
+        && answers(&shape, &waits, 5, 2, 11)
+        && answers(&shape, &listed([3, 0, 2], 2), 5, 2, 11)
+        && answers(&shape, &Record::default(), 5, 0, 11)
+        && answers(&shape, &waits, 5, 3, NOT_REPAIRED)
+        && answers(&shape, &waits, 5, 0, NOT_REPAIRED)
 }
 
 #[cfg(test)]
