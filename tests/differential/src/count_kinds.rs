@@ -13,7 +13,7 @@ pub struct Counted<'a> {
     pub call: &'static str,
     pub pool: &'a Pool,
     pub refusal: u64,
-    /// The target of a fail, and of a line that tells one.
+    /// The target of a fail, of a line that tells one, and of a swap.
     pub target: Option<u64>,
 }
 
@@ -22,7 +22,7 @@ type Test = fn(&Counted) -> bool;
 type Comparison = fn(u64, u64) -> bool;
 
 /// The calls that take a record, the events of a replayed line last.
-pub const TAKERS: [&str; 17] = [
+pub const TAKERS: [&str; 18] = [
     "fail",
     "read",
     "write",
@@ -31,6 +31,7 @@ pub const TAKERS: [&str; 17] = [
     "check_plan",
     "repair_by",
     "draw_plan",
+    "swap",
     "move_edition",
     "panel",
     "audit",
@@ -149,6 +150,11 @@ impl<'a> Counted<'a> {
 
     fn waiting(&self) -> u64 {
         self.pool.record.waiting
+    }
+
+    /// Whether its target was taken back before.
+    pub fn came_back(&self) -> bool {
+        self.target.is_some_and(|target| self.pool.returned.contains(&target))
     }
 
     /// T·C·(N+K) of an accepted layout.

@@ -39,6 +39,10 @@ mod pools;
 mod records;
 mod replays;
 mod spoil;
+mod swap_kinds;
+mod swap_rules;
+mod swap_tally;
+mod swaps;
 mod tally;
 mod texts;
 mod wide_plans;
@@ -74,15 +78,21 @@ const USAGE: &str =
            missing-as-they-lie, highest-sources, all-as-repaired, none-as-repaired, last-group-left-out,
            groups-of-16-bits, first-tile-for-all, old-mended, kept-though-refused, tail-kept,
            moved-though-refused, old-length-untested, new-length-untested, lengths-alike, record-first,
-           true-count-alone, healthy-alone, all-entries";
+           true-count-alone, healthy-alone, all-entries; of the swaps' rules one-by-one, one-by-one-falling,
+           target-alone, new-drive-kept, worked-out, left-cleared, new-drive-cleared, last-group-kept,
+           later-groups-kept, last-dropped, last-in-the-gap, q-kept-by-swap, k-kept, freed-kept,
+           behind-cleared, count-cleared, by-true-count, unrepaired-too, sixteen-first, eleven-first,
+           behind-searched, target-of-8-bits, target-of-16-bits, target-of-32-bits, swapped-though-refused,
+           shortened-though-refused";
 
 /// Under two minutes, also where x86-64 is emulated.
 const USUAL_RUNS: u64 = 300_000;
-/// Of so many rounds one, the first of them early, has a pool with many groups for plans, and one for moves: each run has
-/// them, few of them, since the model takes its time.
+/// Of so many rounds one, the first of them early, has a pool with many groups for plans, one for moves and one for swaps:
+/// each run has them, few of them, since the model takes its time.
 const MANY_GROUPS: u64 = 4000;
 const FIRST_WIDE_PLANS: u64 = 100;
 const FIRST_WIDE_MOVES: u64 = 150;
+const FIRST_WIDE_SWAPS: u64 = 200;
 
 struct Options {
     runs: u64,
@@ -114,9 +124,10 @@ fn round(bench: &mut Bench, seed: u64, number: u64) {
     match number % MANY_GROUPS {
         FIRST_WIDE_PLANS => return wide_plans::round(bench),
         FIRST_WIDE_MOVES => return moves::wide_round(bench),
+        FIRST_WIDE_SWAPS => return swaps::wide_round(bench),
         _ => {}
     }
-    match bench.draws.below(19) {
+    match bench.draws.below(21) {
         0 | 1 => places::round(bench),
         2 | 3 => groups::round(bench),
         4 | 5 => catalogues::round(bench),
@@ -124,6 +135,7 @@ fn round(bench: &mut Bench, seed: u64, number: u64) {
         7..=9 => replays::round(bench),
         10 | 11 => plans::round(bench),
         12 | 13 => moves::round(bench),
+        14 | 15 => swaps::round(bench),
         _ => pools::round(bench),
     }
 }

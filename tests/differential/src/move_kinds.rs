@@ -3,6 +3,7 @@
 use crate::count_kinds::Counted;
 use crate::layouts::MOST_TILES;
 use crate::pools::Pool;
+use crate::records;
 use oracle::layout::Layout;
 use oracle::place::{place, unit_targets};
 use oracle::pool::{homes, Record};
@@ -87,9 +88,9 @@ pub const REFUSED_KINDS: [(&str, Test); 24] = [
     ("2, the new, and the record", |m| m.is(2, [true, false, false])),
     ("2, both, and the record", |m| m.is(2, [false, false, false])),
     ("3, k above K", |m| m.is_zeroed(3) && m.record().k > m.layout().k),
-    ("3, q above k", |m| m.is_zeroed(3) && m.is_within_k() && m.record().q > m.record().k),
-    ("3, a target outside", |m| m.is_zeroed(3) && m.is_within_k() && m.has_a_target_outside()),
-    ("3, a target twice", |m| m.is_zeroed(3) && m.is_within_k() && m.has_a_target_twice()),
+    ("3, q above k", |m| m.is_bad(|_, r| r.q > r.k)),
+    ("3, a target outside", |m| m.is_bad(records::has_a_target_outside)),
+    ("3, a target twice", |m| m.is_bad(|_, r| records::has_a_target_twice(r))),
     ("3, the count alone", |m| m.is_zeroed(3) && m.pool.with_count(0).is_sound()),
 ];
 
@@ -214,32 +215,17 @@ impl Moved<'_> {
         Layout { edition: 1, ..*self.layout() }
     }
 
-    fn is_within_k(&self) -> bool {
-        self.record().k <= self.layout().k
-    }
-
-    fn has_a_target_outside(&self) -> bool {
-        let listed = &self.record().failed[..self.record().k as usize];
-        listed.iter().any(|target| *target >= self.layout().p)
-    }
-
-    fn has_a_target_twice(&self) -> bool {
-        let listed = &self.record().failed[..self.record().k as usize];
-        (1..listed.len()).any(|i| listed[..i].contains(&listed[i]))
-    }
-
-    fn is_good_record(&self) -> bool {
-        self.is_within_k()
-            && self.record().q <= self.record().k
-            && !self.has_a_target_outside()
-            && !self.has_a_target_twice()
-            && self.record().waiting <= most_missing(&self.in_good_edition())
+    /// Refused with 3, where the list is within K and bad so.
+    fn is_bad(&self, is_so: fn(&Layout, &Record) -> bool) -> bool {
+        let (y, r) = (self.layout(), self.record());
+        self.is_zeroed(3) && records::is_within_k(y, r) && is_so(y, r)
     }
 
     /// Whether the old image's length, the new one's, and the record are right.
     fn rights(&self) -> [bool; 3] {
-        let right = self.in_good_edition().derived().image as usize;
-        [self.pool.image.len() == right, self.before.len() == right, self.is_good_record()]
+        let (y, r) = (self.in_good_edition(), self.record());
+        let right = y.derived().image as usize;
+        [self.pool.image.len() == right, self.before.len() == right, records::is_good(&y, r)]
     }
 
     /// Refused so, with an image to be zeroed that held no zero.

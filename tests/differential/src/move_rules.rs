@@ -6,13 +6,14 @@ use crate::count_rules;
 use crate::layouts::is_light;
 use crate::lent::Lent;
 use crate::move_kinds::{contents, unit, Content};
+use crate::moves::file_of;
 use crate::pools::Pool;
 use crate::spoil::Spoil;
 use oracle::group::{data_from, encoded, Bytes};
 use oracle::layout::Layout;
 use oracle::permutation::permutation;
 use oracle::place::place;
-use oracle::pool::{read, repair, write, Record};
+use oracle::pool::{repair, write, Record};
 use oracle::pool_count::{missing_units, panel};
 use oracle::pool_move::{move_edition, other_edition};
 use splicebell::raw::{self, splicebell_layout, splicebell_record};
@@ -153,11 +154,13 @@ fn left_by(rule: MoveRule, pool: &Pool, before: &[u8], right: &[u8]) -> Vec<u8> 
             copied(pool, right, |content| !content.is_missing && is_parity(content.number))
         }
         MoveRule::ParityLeftOut => mixed(y, right, &[], |_, number| is_parity(number)),
-        MoveRule::SameEdition => stored(y, &Record::default(), &file(pool)),
+        MoveRule::SameEdition => stored(y, &Record::default(), &file_of(pool)),
         MoveRule::CookieDropped => {
-            stored(&Layout { cookie: 0, ..there }, &Record::default(), &file(pool))
+            stored(&Layout { cookie: 0, ..there }, &Record::default(), &file_of(pool))
         }
-        MoveRule::OldHomesUsed => stored(&there, &Record { k: r.q, waiting: 0, ..*r }, &file(pool)),
+        MoveRule::OldHomesUsed => {
+            stored(&there, &Record { k: r.q, waiting: 0, ..*r }, &file_of(pool))
+        }
         MoveRule::MissingAsTheyLie => copied(pool, right, |content| content.is_missing),
         MoveRule::HighestSources => stored(&there, &Record::default(), &from_the_highest(pool)),
         MoveRule::LastGroupLeftOut => mixed(y, right, &[], |group, _| group + 1 == groups),
@@ -191,16 +194,9 @@ fn copied(pool: &Pool, right: &[u8], is_such: impl Fn(&Content) -> bool) -> Vec<
     image
 }
 
-fn put(y: &Layout, image: &mut [u8], group: u64, number: u64, bytes: &[u8]) {
+pub fn put(y: &Layout, image: &mut [u8], group: u64, number: u64, bytes: &[u8]) {
     let begins = place(y, group, number).1.begins as usize;
     image[begins..begins + bytes.len()].copy_from_slice(bytes);
-}
-
-/// The whole file of a sound pool.
-fn file(pool: &Pool) -> Vec<u8> {
-    let mut file = vec![0; pool.layout.derived().capacity as usize];
-    read(&pool.layout, &pool.record, &pool.image, 0, &mut file);
-    file
 }
 
 /// A file written on zeros.
@@ -288,7 +284,7 @@ fn fitted(pool: &Pool, length: usize) -> Vec<u8> {
 }
 
 /// Puts these in the place of all bytes.
-fn store_all(lent: &Lent<u8>, bytes: &[u8]) {
+pub fn store_all(lent: &Lent<u8>, bytes: &[u8]) {
     assert_eq!(lent.len(), bytes.len());
     // SAFETY: as many bytes as the buffer has, which is not sealed, and nothing else refers to it.
     unsafe { lent.pointer().copy_from_nonoverlapping(bytes.as_ptr(), bytes.len()) };

@@ -156,7 +156,7 @@ fn flawed(bench: &mut Bench, pool: &Pool) {
 }
 
 /// Often bad in its edition alone.
-fn bad_layout(draws: &mut Draws, y: &Layout) -> Layout {
+pub fn bad_layout(draws: &mut Draws, y: &Layout) -> Layout {
     if draws.one_in(2) {
         return layouts::with_bad_edition(draws, y);
     }
@@ -164,7 +164,7 @@ fn bad_layout(draws: &mut Draws, y: &Layout) -> Layout {
 }
 
 /// Often with a target outside or one twice, where the layout has room for that.
-fn bad_record(draws: &mut Draws, y: &Layout) -> Record {
+pub fn bad_record(draws: &mut Draws, y: &Layout) -> Record {
     match draws.below(6) {
         0 if y.k > 0 => records::outside(draws, y),
         1 if y.k > 1 => records::repeated(draws, y),
@@ -174,7 +174,7 @@ fn bad_record(draws: &mut Draws, y: &Layout) -> Record {
 
 /// Mostly a length that an image of a sound pool should not have; the file's is the right one where all units are data.
 /// One that is wrong in one bit is seen only where all bits are compared.
-fn other_length(draws: &mut Draws, pool: &Pool) -> usize {
+pub fn other_length(draws: &mut Draws, pool: &Pool) -> usize {
     let (right, file) = (pool.image.len(), pool.layout.derived().capacity as usize);
     let (any, bit) = (draws.wrong_length(right), 1 << draws.below(17));
     draws.pick(&[right - 1, right + 1, file, any, right ^ bit])
@@ -189,13 +189,11 @@ pub fn wide_round(bench: &mut Bench) {
 }
 
 /// A pool of drawn bytes with the most tiles that may be, of four groups each.
-fn wide(draws: &mut Draws) -> Pool {
+pub fn wide(draws: &mut Draws) -> Pool {
     let (cookie, edition) = (layouts::cookie(draws), layouts::edition(draws));
     let layout = Layout { n: 1, k: 1, p: 4, u: 1, t: MOST_TILES, cookie, edition };
-    let (record, image) =
-        (records::good(draws, &layout), draws.bytes(layout.derived().image as usize));
-    let is_scribbled = record.k > 0;
-    Pool { layout, record, image, is_scribbled, holds_file: false, is_moved: false }
+    let record = records::good(draws, &layout);
+    Pool::unwritten(layout, record, draws.bytes(layout.derived().image as usize))
 }
 
 /// One move; the pool that it leaves, where it is accepted.
@@ -265,8 +263,8 @@ fn move_edition(
 
 /// The pool that a move leaves: it holds a file, also where the old one held none, since its parity is worked out.
 fn left(pool: &Pool, image: Vec<u8>) -> Pool {
-    let (layout, record) = (other_edition(&pool.layout), Record::default());
-    Pool { layout, record, image, is_scribbled: false, holds_file: true, is_moved: true }
+    let unwritten = Pool::unwritten(other_edition(&pool.layout), Record::default(), image);
+    Pool { holds_file: true, is_moved: true, ..unwritten }
 }
 
 /// A move into an image of the right length.
@@ -285,12 +283,16 @@ fn there_and_back(bench: &mut Bench, pool: &Pool) {
 
 /// Whether the image is what a write of the whole file leaves on zeros.
 fn is_written(pool: &Pool) -> bool {
-    let (y, r) = (&pool.layout, &pool.record);
-    let mut file = vec![0; y.derived().capacity as usize];
-    oracle::pool::read(y, r, &pool.image, 0, &mut file);
     let mut image = vec![0; pool.image.len()];
-    oracle::pool::write(y, r, &mut image, 0, &file);
+    oracle::pool::write(&pool.layout, &pool.record, &mut image, 0, &file_of(pool));
     image == pool.image
+}
+
+/// The whole file of a sound pool.
+pub fn file_of(pool: &Pool) -> Vec<u8> {
+    let mut file = vec![0; pool.layout.derived().capacity as usize];
+    oracle::pool::read(&pool.layout, &pool.record, &pool.image, 0, &mut file);
+    file
 }
 
 /// "Reads agree over the whole capacity": the library's read of the new pool against its read of the old one.

@@ -6,7 +6,7 @@ use crate::draws::Draws;
 use crate::layouts::is_light;
 use crate::lists::write_list;
 use crate::pool_calls::{fail, hex_line, prepare, read, repair, show, write};
-use crate::{layouts, moves, plans, records};
+use crate::{layouts, moves, plans, records, swaps};
 use oracle::layout::Layout;
 use oracle::place::{place, unit_targets};
 use oracle::pool::{homes, Record};
@@ -38,6 +38,8 @@ pub struct Pool {
     pub holds_file: bool,
     /// Whether it became what it is from what a move left.
     pub is_moved: bool,
+    /// The drives that were taken back since, in order.
+    pub returned: Vec<u64>,
 }
 
 impl Pool {
@@ -51,12 +53,17 @@ impl Pool {
         let length = layout.derived().image as usize;
         if draws.one_in(3) {
             let record = records::good(draws, &layout);
-            let (image, is_scribbled) = (draws.bytes(length), record.k > 0);
-            Pool { layout, record, image, is_scribbled, holds_file: false, is_moved: false }
+            Pool::unwritten(layout, record, draws.bytes(length))
         } else {
             let (record, image) = (records::empty(draws), vec![0; length]);
-            Pool { layout, record, image, is_scribbled: false, holds_file: true, is_moved: false }
+            Pool { holds_file: true, ..Pool::unwritten(layout, record, image) }
         }
+    }
+
+    /// An image that holds no file.
+    pub fn unwritten(layout: Layout, record: Record, image: Vec<u8>) -> Pool {
+        let (is_scribbled, returned) = (record.k > 0, vec![]);
+        Pool { layout, record, image, is_scribbled, holds_file: false, is_moved: false, returned }
     }
 
     fn usual(draws: &mut Draws) -> Layout {
@@ -178,7 +185,7 @@ pub fn round(bench: &mut Bench) {
 
 /// Makes one call; what it leaves, for calls that change the record or the image.
 fn call(bench: &mut Bench, pool: &Pool) -> Option<Pool> {
-    match bench.draws.below(38) {
+    match bench.draws.below(40) {
         0..=3 => read(bench, pool),
         4..=8 => return Some(write(bench, pool)),
         9..=11 => return Some(fail(bench, pool)),
@@ -193,6 +200,7 @@ fn call(bench: &mut Bench, pool: &Pool) -> Option<Pool> {
         24..=29 => fail_about_the_bound(bench, pool),
         30..=31 if is_light(&pool.layout) => return plans::call(bench, pool),
         32..=33 if is_light(&pool.layout) => return moves::call(bench, pool),
+        34..=35 if is_light(&pool.layout) => return Some(swaps::call(bench, pool)),
         _ => return Some(write_list(bench, pool)),
     }
     None

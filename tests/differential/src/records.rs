@@ -4,6 +4,7 @@ use crate::counts;
 use crate::draws::Draws;
 use oracle::layout::Layout;
 use oracle::pool::Record;
+use oracle::pool_count::most_missing;
 use splicebell::raw::splicebell_record;
 
 pub fn lent(r: &Record) -> splicebell_record {
@@ -36,6 +37,12 @@ pub fn unrepaired(draws: &mut Draws, y: &Layout) -> Record {
     let k = draws.between(1, y.k);
     let q = draws.below(k);
     listed(draws, y, k, q)
+}
+
+/// A good record of failed targets that are all repaired. The layout has parity units.
+pub fn repaired(draws: &mut Draws, y: &Layout) -> Record {
+    let k = draws.between(1, y.k);
+    listed(draws, y, k, k)
 }
 
 /// Any k targets, of which q are repaired.
@@ -87,6 +94,30 @@ fn repeat(draws: &mut Draws, record: &mut Record) {
 /// The record as if nothing had been repaired: each content's home is its own place.
 pub fn as_at_first(r: &Record) -> Record {
     Record { q: 0, ..*r }
+}
+
+pub fn is_within_k(y: &Layout, r: &Record) -> bool {
+    r.k <= y.k
+}
+
+/// Whether a target of a list within K is outside.
+pub fn has_a_target_outside(y: &Layout, r: &Record) -> bool {
+    r.failed[..r.k as usize].iter().any(|target| *target >= y.p)
+}
+
+/// Whether a target of a list within K is listed twice.
+pub fn has_a_target_twice(r: &Record) -> bool {
+    let listed = &r.failed[..r.k as usize];
+    (1..listed.len()).any(|i| listed[..i].contains(&listed[i]))
+}
+
+/// Whether a record is good for an accepted layout.
+pub fn is_good(y: &Layout, r: &Record) -> bool {
+    is_within_k(y, r)
+        && r.q <= r.k
+        && !has_a_target_outside(y, r)
+        && !has_a_target_twice(r)
+        && r.waiting <= most_missing(y)
 }
 
 /// A record that is bad in one way, where the layout has room for that way.

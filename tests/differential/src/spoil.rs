@@ -1,6 +1,6 @@
 //! Faults made on purpose, one for each kind of comparison, one for each rule of the catalogue's numbers of two words, one
-//! for each of the count of missing units, one for each of plans of repair, one for each of the edition and one for each of
-//! moves between editions: the tester must report every one of them.
+//! for each of the count of missing units, one for each of plans of repair, one for each of the edition, one for each of moves
+//! between editions and one for each of swaps of a drive: the tester must report every one of them.
 
 use crate::catalogue_rules::Rule;
 use crate::count_rules::CountRule;
@@ -9,6 +9,7 @@ use crate::lent::Lent;
 use crate::move_rules::MoveRule;
 use crate::plan_rules::Numbers::{Content, Group, Sources};
 use crate::plan_rules::PlanRule;
+use crate::swap_rules::SwapRule;
 use crate::tally::Call;
 
 /// What a library with a fault would do.
@@ -38,9 +39,11 @@ pub enum Spoil {
     Edition(EditionRule),
     /// A rule of moves between editions is another.
     Move(MoveRule),
+    /// A rule of swaps of a drive is another.
+    Swap(SwapRule),
 }
 
-const KINDS: [(&str, Spoil); 96] = [
+const KINDS: [(&str, Spoil); 122] = [
     ("answer", Spoil::Answer),
     ("byte", Spoil::Byte),
     ("before", Spoil::Before),
@@ -137,6 +140,32 @@ const KINDS: [(&str, Spoil); 96] = [
     ("true-count-alone", Spoil::Move(MoveRule::TrueCountAlone)),
     ("healthy-alone", Spoil::Move(MoveRule::HealthyAlone)),
     ("all-entries", Spoil::Move(MoveRule::AllEntries)),
+    ("one-by-one", Spoil::Swap(SwapRule::OneByOne)),
+    ("one-by-one-falling", Spoil::Swap(SwapRule::OneByOneFalling)),
+    ("target-alone", Spoil::Swap(SwapRule::TargetAlone)),
+    ("new-drive-kept", Spoil::Swap(SwapRule::NewDriveKept)),
+    ("worked-out", Spoil::Swap(SwapRule::WorkedOut)),
+    ("left-cleared", Spoil::Swap(SwapRule::LeftCleared)),
+    ("new-drive-cleared", Spoil::Swap(SwapRule::NewDriveCleared)),
+    ("last-group-kept", Spoil::Swap(SwapRule::LastGroupKept)),
+    ("later-groups-kept", Spoil::Swap(SwapRule::GroupsOf16Bits)),
+    ("last-dropped", Spoil::Swap(SwapRule::LastDropped)),
+    ("last-in-the-gap", Spoil::Swap(SwapRule::LastInTheGap)),
+    ("q-kept-by-swap", Spoil::Swap(SwapRule::QKept)),
+    ("k-kept", Spoil::Swap(SwapRule::KKept)),
+    ("freed-kept", Spoil::Swap(SwapRule::FreedKept)),
+    ("behind-cleared", Spoil::Swap(SwapRule::BehindCleared)),
+    ("count-cleared", Spoil::Swap(SwapRule::CountCleared)),
+    ("by-true-count", Spoil::Swap(SwapRule::ByTrueCount)),
+    ("unrepaired-too", Spoil::Swap(SwapRule::UnrepairedToo)),
+    ("sixteen-first", Spoil::Swap(SwapRule::SixteenFirst)),
+    ("eleven-first", Spoil::Swap(SwapRule::ElevenFirst)),
+    ("behind-searched", Spoil::Swap(SwapRule::BehindSearched)),
+    ("target-of-8-bits", Spoil::Swap(SwapRule::TargetOf(8))),
+    ("target-of-16-bits", Spoil::Swap(SwapRule::TargetOf(16))),
+    ("target-of-32-bits", Spoil::Swap(SwapRule::TargetOf(32))),
+    ("swapped-though-refused", Spoil::Swap(SwapRule::MovedThoughRefused)),
+    ("shortened-though-refused", Spoil::Swap(SwapRule::ShortenedThoughRefused)),
 ];
 
 /// A rule that is another in the call of this name alone.

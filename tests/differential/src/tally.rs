@@ -1,6 +1,7 @@
 //! What has been tried so far: the calls with their refusal numbers, the layouts, the damage done to texts, to plans of
-//! repair and to replayed lines, the kinds of lists of writes, of plans, of moves, of calls on catalogues and of calls by
-//! the count in their record or the edition of their layout, and those of replayed lines with the numbers of their answers.
+//! repair and to replayed lines, the kinds of lists of writes, of plans, of moves, of swaps, of calls on catalogues and of
+//! calls by the count in their record or the edition of their layout, and those of replayed lines with the numbers of their
+//! answers.
 
 use crate::catalogue_kinds::{Asked, CATALOGUE_KINDS};
 use crate::count_kinds::{Counted, COUNTS, COUNT_KINDS, TAKERS};
@@ -12,6 +13,7 @@ use crate::line_kinds::{FirstLine, Line, EVENTS, FIRST_KINDS, LINE_KINDS, MALFOR
 use crate::list_kinds::{Listed, KINDS};
 use crate::move_tally::MoveTally;
 use crate::plan_tally::PlanTally;
+use crate::swap_tally::SwapTally;
 use oracle::layout::Layout;
 
 /// The public calls, in the order of include/splicebell.h.
@@ -35,6 +37,7 @@ pub enum Call {
     CheckPlan,
     RepairBy,
     DrawPlan,
+    Swap,
     MoveEdition,
     Panel,
     Audit,
@@ -52,7 +55,7 @@ pub enum Call {
 }
 
 /// The name of each call, and the numbers that it may answer by include/splicebell.h, beside 0.
-const CALLS: [(&str, &[usize]); 32] = [
+const CALLS: [(&str, &[usize]); 33] = [
     ("measure", &[1]),
     ("tile_permutation", &[1, 4]),
     ("tile_inverse", &[1, 4]),
@@ -71,6 +74,7 @@ const CALLS: [(&str, &[usize]); 32] = [
     ("check_plan", &[1, 2, 3, 15]),
     ("repair_by", &[1, 2, 3, 15]),
     ("draw_plan", &[1, 2, 3, 5]),
+    ("swap", &[1, 2, 3, 4, 11, 16]),
     ("move_edition", &[1, 2, 3]),
     ("panel", &[1, 2, 3]),
     ("audit", &[1, 2, 3, 14]),
@@ -98,8 +102,8 @@ impl Call {
     }
 }
 
-/// The refusal numbers, 0 among them: document 01's table, and 12 to 15 of document 02.
-const REFUSALS: usize = 16;
+/// The refusal numbers, 0 among them: document 01's table, and 12 to 16 of document 02.
+const REFUSALS: usize = 17;
 
 /// The lowest and the highest that was seen.
 #[derive(Clone, Copy)]
@@ -167,6 +171,8 @@ pub struct Tally {
     pub plans: PlanTally,
     move_layouts: Ranges,
     pub moves: MoveTally,
+    swap_layouts: Ranges,
+    pub swaps: SwapTally,
     replays: Ranges,
     /// How often each event was answered with each number, and how often a line was malformed.
     events: [[u64; REFUSALS]; EVENTS.len()],
@@ -194,6 +200,8 @@ impl Tally {
         plans: PlanTally::NONE,
         move_layouts: Ranges::NONE,
         moves: MoveTally::NONE,
+        swap_layouts: Ranges::NONE,
+        swaps: SwapTally::NONE,
         replays: Ranges::NONE,
         events: [[0; REFUSALS]; EVENTS.len()],
         malformed: 0,
@@ -249,6 +257,7 @@ impl Tally {
     pub fn add_count(&mut self, call: &Counted) {
         let Some(taker) = TAKERS.iter().position(|name| *name == call.call) else { return };
         self.moves.add_later(call);
+        self.swaps.add_later(call);
         for ((_, is_met), count) in COUNTS.iter().zip(&mut self.counts_taken[taker]) {
             *count += u64::from(is_met(call));
         }
@@ -265,6 +274,11 @@ impl Tally {
     /// A layout whose pool is moved to the other edition.
     pub fn add_move_layout(&mut self, layout: &Layout) {
         self.move_layouts.add(layout);
+    }
+
+    /// A layout whose pool takes drives back.
+    pub fn add_swap_layout(&mut self, layout: &Layout) {
+        self.swap_layouts.add(layout);
     }
 
     /// A layout whose pool lines are played on.
@@ -331,12 +345,14 @@ impl Tally {
         self.editions.print();
         self.plans.print();
         self.moves.print();
+        self.swaps.print();
         self.print_lines();
         self.all.print("without an image");
         self.pools.print("pools");
         self.texts.print("texts");
         self.plan_layouts.print("plans");
         self.move_layouts.print("moves");
+        self.swap_layouts.print("swaps");
         self.replays.print("replays");
     }
 
@@ -369,8 +385,8 @@ impl Tally {
     }
 
     /// The calls and their refusal numbers that were never met, the damage that was never done, and the kinds of
-    /// lists, of plans, of moves, of calls on catalogues, of calls by their count or their edition and of replayed lines
-    /// that were never met.
+    /// lists, of plans, of moves, of swaps, of calls on catalogues, of calls by their count or their edition and of replayed
+    /// lines that were never met.
     pub fn never_met(&self) -> Vec<String> {
         let mut never = Vec::new();
         for ((name, refusals), of_call) in CALLS.iter().zip(self.counts) {
@@ -394,6 +410,7 @@ impl Tally {
         never.extend(self.editions.never_met());
         never.extend(self.plans.never_met());
         never.extend(self.moves.never_met());
+        never.extend(self.swaps.never_met());
         never.extend(unmet("a line damaged by", &LINE_DAMAGES, &self.line_damages));
         never.extend(unmet("a line with", &LINE_KINDS, &self.lines));
         never.extend(unmet("a first line with", &FIRST_KINDS, &self.firsts));

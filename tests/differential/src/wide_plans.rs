@@ -74,8 +74,7 @@ fn drawn(draws: &mut Draws) -> Pool {
         let misses = |group| presence(&layout, &record, group).contains(&false);
         if one != other && misses(BORDER - 1) && misses(BORDER) {
             let image = draws.bytes(layout.derived().image as usize);
-            let (is_scribbled, holds_file, is_moved) = (true, false, false);
-            return Pool { layout, record, image, is_scribbled, holds_file, is_moved };
+            return Pool::unwritten(layout, record, image);
         }
     }
 }
