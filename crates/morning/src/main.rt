@@ -1,7 +1,9 @@
 // A kiosk's morning, in words and hex lines: photographs are stored on a row of drives, a drive
 // dies in the rush, kiosks go on writing, the claims desk goes on reading, and the row is repaired.
-// The service panel shows how many units wait for that, and the count is audited.
+// The service panel shows how many units wait for that, and the count is audited. In the afternoon
+// the dead drive is swapped for a new one, and the row is whole again: another one may die.
 use homes::Record;
+use row_trial::fill_drive;
 use row_trial::get;
 use row_trial::inspect;
 use row_trial::lose;
@@ -74,12 +76,24 @@ fn before_the_rush(r: Record, image: &mut [u8]) {
     inspect(r, image);
 }
 
-// The same drive again, and one more than the row can lose.
-fn lose_more(r: Record, image: &[u8]) -> Record {
+fn take_back(r: Record, image: &mut [u8], target: u64) -> Record {
+    text(b"Drive ");
+    decimal(target);
+    text(b" is swapped: ");
+    let swapped = pool_swap::swap(row(), r, image, target);
+    answer_line(swapped.refusal);
+    let rec = swapped.rec;
+    rec
+}
+
+// The same drive again, and one more than the row can lose; and too early to take one back, or one that is alive.
+fn lose_more(r: Record, image: &mut [u8]) -> Record {
     let again = lose(r, image, 2);
     let dud = lose(again, image, 4);
-    inspect(dud, image);
-    dud
+    let early = take_back(dud, image, 2);
+    let alive = take_back(early, image, 4);
+    inspect(alive, image);
+    alive
 }
 
 fn in_the_rush(r: Record, image: &mut [u8]) -> Record {
@@ -102,7 +116,7 @@ fn misread(r: Record, image: &[u8], waiting: u64) {
     inspect(with_count(r, waiting), image);
 }
 
-fn after_the_rush(r: Record, image: &mut [u8]) {
+fn after_the_rush(r: Record, image: &mut [u8]) -> Record {
     let mended = mend(r, image);
     inspect(mended, image);
     text(b"The drives after the repair:\n");
@@ -115,11 +129,61 @@ fn after_the_rush(r: Record, image: &mut [u8]) {
     misread(again, image, 1);
     misread(again, image, 15);
     misread(again, image, 16);
+    again
+}
+
+// A new drive in the place of a dead one, whose bytes begin there.
+fn put_in(image: &mut [u8], target: u64, from: usize) {
+    text(b"A new drive ");
+    decimal(target);
+    text(b" is put in, every byte of it 55\n");
+    fill_drive(image, from, 85);
+}
+
+fn in_the_afternoon(r: Record, image: &mut [u8]) -> Record {
+    put_in(image, 2, 64);
+    let none = take_back(r, image, 5);
+    let alive = take_back(none, image, 4);
+    let whole = take_back(alive, image, 2);
+    inspect(whole, image);
+    text(b"The drives after the swap:\n");
+    drives(image);
+    let mut out = [0u8; 70];
+    show(whole, image, 0, &mut out);
+    take_back(whole, image, 2)
+}
+
+// Another drive dies.
+fn lose_another(r: Record, image: &mut [u8]) -> Record {
+    let failed = lose(r, image, 4);
+    fill_drive(image, 128, 255);
+    inspect(failed, image);
+    let mut out = [0u8; 70];
+    show(failed, image, 0, &mut out);
+    let mut fourth = [0u8; 10];
+    photograph(&mut fourth, 3);
+    store(failed, image, 70, &fourth);
+    failed
+}
+
+// It is swapped in its turn.
+fn in_the_evening(r: Record, image: &mut [u8]) {
+    let mended = mend(r, image);
+    put_in(image, 4, 128);
+    let whole = take_back(mended, image, 4);
+    inspect(whole, image);
+    text(b"The drives in the evening:\n");
+    drives(image);
+    let mut out = [0u8; 80];
+    show(whole, image, 0, &mut out);
 }
 
 fn main() {
     let mut image = [0u8; 160];
     before_the_rush(no_failures(), &mut image);
     let failed = in_the_rush(no_failures(), &mut image);
-    after_the_rush(failed, &mut image);
+    let mended = after_the_rush(failed, &mut image);
+    let whole = in_the_afternoon(mended, &mut image);
+    let another = lose_another(whole, &mut image);
+    in_the_evening(another, &mut image);
 }

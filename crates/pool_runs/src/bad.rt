@@ -1,4 +1,4 @@
-// Calls that are refused for their layout, their image or their record: all eight calls with each.
+// Calls that are refused for their layout, their image or their record: all nine calls with each.
 use crate::calls;
 use crate::calls::Run;
 use homes::Record;
@@ -141,6 +141,15 @@ fn fail_and_repair(y: Layout, rec: Record, image: &mut [u8]) {
     newline();
 }
 
+fn swap(y: Layout, rec: Record, image: &mut [u8]) {
+    let swapped = pool_swap::swap(y, rec, image, 0);
+    text(b"swap");
+    number(swapped.refusal);
+    let after = swapped.rec;
+    calls::record(after);
+    newline();
+}
+
 fn look(y: Layout, rec: Record, image: &[u8], scratch: &mut [u8]) {
     calls::stain(scratch);
     let refusal = pool_look::prepare(y, rec, image, 0, 0, scratch);
@@ -169,6 +178,7 @@ pub fn event(run: Run, image: &mut [u8], buffer: &mut [u8], kind: u64) {
     let part = part_for(image, kind);
     read_and_write(y, rec, part);
     fail_and_repair(y, rec, part);
+    swap(y, rec, part);
     look(y, rec, part, calls::front(buffer, run.y.u));
     calls::panel(y, rec, part);
 }

@@ -162,6 +162,18 @@ pub fn repair(run: Run, image: &mut [u8]) -> Run {
     run.with(after)
 }
 
+pub fn swap(run: Run, image: &mut [u8], target: u64) -> Run {
+    let y = run.y;
+    let rec = run.rec;
+    let answer = pool_swap::swap(y, rec, image, target);
+    text(b"swap");
+    number(target);
+    number(answer.refusal);
+    newline();
+    let after = answer.rec;
+    run.with(after)
+}
+
 pub fn look(run: Run, image: &[u8], group: u64, content: u64, scratch: &mut [u8]) {
     let y = run.y;
     let rec = run.rec;

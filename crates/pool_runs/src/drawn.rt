@@ -243,6 +243,21 @@ pub fn target(run: Run, seed: &mut u64) -> u64 {
     below(seed, run.y.p)
 }
 
+// Mostly a drive of the list.
+pub fn swapped(run: Run, seed: &mut u64) -> u64 {
+    let kind = draw(seed, 16);
+    if kind == 0 {
+        return run.y.p;
+    }
+    if kind == 1 {
+        return ONES;
+    }
+    if kind < 4 {
+        return below(seed, run.y.p);
+    }
+    crate::calls::entry(run.rec, below(seed, run.rec.k))
+}
+
 pub struct View {
     pub group: u64,
     pub content: u64,

@@ -1,4 +1,5 @@
-// The runs that document 01's examples ask for, and one with counts of missing units about the bounds.
+// The runs that document 01's examples ask for, one with counts of missing units about the bounds, and those of order 10's
+// swapped drives.
 use crate::calls;
 use crate::calls::Run;
 use numbers::Layout;
@@ -37,6 +38,12 @@ fn fail(run: Run, image: &[u8], target: u64) -> Run {
 
 fn repair(run: Run, image: &mut [u8]) -> Run {
     let after = calls::repair(run, image);
+    calls::pool(after, image);
+    after
+}
+
+fn swap(run: Run, image: &mut [u8], target: u64) -> Run {
+    let after = calls::swap(run, image, target);
     calls::pool(after, image);
     after
 }
@@ -126,9 +133,8 @@ fn failing_two(run: Run, v: u64, w: u64, image: &mut [u8], buffer: &mut [u8]) {
     look(mended, image, buffer, 0, 0);
 }
 
-// Lists of two failures.
-fn two_failures(i: u64, v: u64, w: u64, space: &mut [u8], buffer: &mut [u8]) {
-    let y = Layout {
+fn five_targets() -> Run {
+    calls::begin(Layout {
         n: 1,
         k: 2,
         p: 5,
@@ -136,8 +142,12 @@ fn two_failures(i: u64, v: u64, w: u64, space: &mut [u8], buffer: &mut [u8]) {
         t: 1,
         cookie: 0,
         edition: 1,
-    };
-    let run = calls::begin(y);
+    })
+}
+
+// Lists of two failures.
+fn two_failures(i: u64, v: u64, w: u64, space: &mut [u8], buffer: &mut [u8]) {
+    let run = five_targets();
     let image = calls::front(space, run.numbers.image);
     begin(i, run, image);
     write_counted(run, image, buffer, 3);
@@ -190,6 +200,48 @@ pub fn counts(i: u64, space: &mut [u8]) {
     let failed = fail(count(run, image, 6), image, 3);
     with_two_missing(failed, image);
     mending(failed, image);
+}
+
+// ---- swapped drives
+
+// Two drives die: too early to take one back. Then they are repaired: one that is alive, and one that there is not.
+fn not_yet(run: Run, image: &mut [u8], first: u64, second: u64) -> Run {
+    let one = fail(run, image, first);
+    let two = fail(one, image, second);
+    let early = swap(two, image, first);
+    let mended = repair(early, image);
+    let alive = layout::find_place(run.y, 0, 2);
+    let dud = swap(mended, image, alive.target);
+    swap(dud, image, 5)
+}
+
+// The one that died first comes back, and then the other.
+fn coming_back(run: Run, image: &mut [u8], buffer: &mut [u8], first: u64, second: u64) {
+    let one = swap(run, image, first);
+    look(one, image, buffer, 0, 0);
+    look(one, image, buffer, 0, 1);
+    look(one, image, buffer, 0, 2);
+    let again = swap(one, image, first);
+    let whole = swap(again, image, second);
+    panel(whole, image);
+    read(whole, image, buffer, 0, 3);
+}
+
+fn two_swaps(i: u64, v: u64, w: u64, space: &mut [u8], buffer: &mut [u8]) {
+    let run = five_targets();
+    let image = calls::front(space, run.numbers.image);
+    begin(i, run, image);
+    write_counted(run, image, buffer, 3);
+    let first = layout::find_place(run.y, 0, v);
+    let second = layout::find_place(run.y, 0, w);
+    let mended = not_yet(run, image, first.target, second.target);
+    coming_back(mended, image, buffer, first.target, second.target);
+}
+
+pub fn swaps(space: &mut [u8], buffer: &mut [u8]) {
+    two_swaps(405, 3, 0, space, buffer);
+    two_swaps(406, 0, 1, space, buffer);
+    two_swaps(407, 1, 0, space, buffer);
 }
 
 pub fn runs(space: &mut [u8], buffer: &mut [u8]) {

@@ -1,5 +1,5 @@
-// Seeded runs of events on pools: writes, failures, repairs, reads, looks, panels, scribbles, other counts and refused
-// calls, each answer printed with a checksum of the whole image and the record after it.
+// Seeded runs of events on pools: writes, failures, repairs, swapped drives, reads, looks, panels, scribbles, other counts
+// and refused calls, each answer printed with a checksum of the whole image and the record after it; and rows over the years.
 mod bad;
 mod calls;
 mod drawn;
@@ -52,7 +52,7 @@ fn scribble_event(run: Run, image: &mut [u8], seed: &mut u64) {
 }
 
 fn event(run: Run, image: &mut [u8], buffer: &mut [u8], seed: &mut u64) -> Run {
-    let kind = draw(seed, 18);
+    let kind = draw(seed, 20);
     if kind < 5 {
         write_event(run, image, buffer, seed);
         return run;
@@ -83,7 +83,10 @@ fn event(run: Run, image: &mut [u8], buffer: &mut [u8], seed: &mut u64) -> Run {
         calls::panel(run.y, run.rec, image);
         return run;
     }
-    calls::count(run, drawn::count(run, seed))
+    if kind == 17 {
+        return calls::count(run, drawn::count(run, seed));
+    }
+    calls::swap(run, image, drawn::swapped(run, seed))
 }
 
 // ---- runs
@@ -125,6 +128,78 @@ fn drawn_runs(space: &mut [u8], buffer: &mut [u8], seed: &mut u64) {
     }
 }
 
+// ---- years
+
+fn lose(run: Run, image: &[u8], seed: &mut u64) -> Run {
+    let after = calls::fail(run, image, drawn::target(run, seed));
+    calls::pool(after, image);
+    after
+}
+
+fn swap(run: Run, image: &mut [u8], seed: &mut u64) -> Run {
+    let after = calls::swap(run, image, drawn::swapped(run, seed));
+    calls::pool(after, image);
+    after
+}
+
+// Kiosks write, drives die, and one is taken for swapped too early.
+fn spring(run: Run, image: &mut [u8], buffer: &mut [u8], seed: &mut u64) -> Run {
+    write_event(run, image, buffer, seed);
+    calls::pool(run, image);
+    let one = lose(run, image, seed);
+    let two = lose(one, image, seed);
+    swap(two, image, seed)
+}
+
+// The row is repaired, a dead drive gets other bytes, and drives are swapped.
+fn autumn(run: Run, image: &mut [u8], seed: &mut u64) -> Run {
+    let mended = calls::repair(run, image);
+    calls::pool(mended, image);
+    scribble_event(mended, image, seed);
+    calls::pool(mended, image);
+    let back = swap(mended, image, seed);
+    calls::panel(back.y, back.rec, image);
+    calls::pool(back, image);
+    swap(back, image, seed)
+}
+
+fn year(run: Run, image: &mut [u8], buffer: &mut [u8], seed: &mut u64) -> Run {
+    let dead = spring(run, image, buffer, seed);
+    autumn(dead, image, seed)
+}
+
+fn write_all(run: Run, image: &mut [u8], buffer: &mut [u8], seed: &mut u64) {
+    let bytes = calls::front(buffer, run.numbers.capacity);
+    trial::fill(seed, bytes);
+    calls::write(run, image, 0, bytes);
+    calls::pool(run, image);
+}
+
+fn years(run: Run, image: &mut [u8], buffer: &mut [u8], seed: &mut u64) -> Run {
+    let one = year(run, image, buffer, seed);
+    let two = year(one, image, buffer, seed);
+    let three = year(two, image, buffer, seed);
+    year(three, image, buffer, seed)
+}
+
+fn years_run(i: u64, space: &mut [u8], buffer: &mut [u8], seed: &mut u64) {
+    let y = drawn::layout(seed);
+    let run = calls::begin(y);
+    let image = calls::front(space, run.numbers.image);
+    lists::clear(image);
+    calls::head(i, y);
+    calls::pool(run, image);
+    write_all(run, image, buffer, seed);
+    let last = years(run, image, buffer, seed);
+    read_all(last, image, buffer);
+}
+
+fn years_runs(space: &mut [u8], buffer: &mut [u8], seed: &mut u64) {
+    for i in 408u64..448 {
+        years_run(i, space, buffer, seed);
+    }
+}
+
 fn main() {
     let mut seed: u64 = 40260404;
     let mut space = [0u8; 65536];
@@ -132,4 +207,6 @@ fn main() {
     fixed::runs(&mut space, &mut buffer);
     drawn_runs(&mut space, &mut buffer, &mut seed);
     fixed::counts(404, &mut space);
+    fixed::swaps(&mut space, &mut buffer);
+    years_runs(&mut space, &mut buffer, &mut seed);
 }

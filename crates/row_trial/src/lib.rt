@@ -71,10 +71,17 @@ pub fn lose(r: Record, image: &[u8], target: u64) -> Record {
 
 // What stood on drive 2 is gone: it has the bytes from 64 on.
 pub fn wipe_drive_2(image: &mut [u8]) {
-    if image.len() < 96 {
-        return;
+    fill_drive(image, 64, 255);
+}
+
+// Every byte of the drive whose bytes begin there becomes this one: each drive has 32.
+pub fn fill_drive(image: &mut [u8], from: usize, value: u8) {
+    if from <= image.len() {
+        if 32 <= image.len() - from {
+            let end = from + 32;
+            set_all(&mut image[from..end], value);
+        }
     }
-    set_all(&mut image[64..96], 255);
 }
 
 pub fn mend(r: Record, image: &mut [u8]) -> Record {

@@ -6,10 +6,13 @@ use crate::layout::{gcd, layout, Layout};
 use crate::place::place;
 use crate::pool::{fail, prepare, read, repair, show, write, Record};
 use crate::pool_count::{audit, missing_units, most_missing, panel};
+use crate::pool_swap::swap;
 
 const ONES: u64 = u64::MAX;
 const RUNS: u64 = 400;
 const EVENTS: u64 = 14;
+const ROWS: u64 = 40;
+const YEARS: u64 = 4;
 const FILLER: u8 = 0xAA;
 
 /// One run: its layout, the record that the last call returned, the image.
@@ -31,6 +34,13 @@ pub fn output() -> String {
         out.push_str(&drawn_run(index, &mut draws));
     }
     out.push_str(&counted_run(4 + RUNS));
+    let swapped = 5 + RUNS;
+    for (index, order) in [[3, 0], [0, 1], [1, 0]].iter().enumerate() {
+        out.push_str(&swapped_run(swapped + index as u64, *order));
+    }
+    for index in swapped + 3..swapped + 3 + ROWS {
+        out.push_str(&years_run(index, &mut draws));
+    }
     out
 }
 
@@ -96,6 +106,41 @@ fn counted_run(index: u64) -> String {
     run.fail(0);
     run.repair();
     run.panel();
+    run.out
+}
+
+/// Order 10 on that row: too early, a drive that is alive, one that there is not;
+/// then the first that failed comes back, and the second.
+fn swapped_run(index: u64, order: [u64; 2]) -> String {
+    let mut run = Run::fresh(index, layout(1, 2, 5, 3, 1, 0));
+    run.write(0, &[1, 2, 3]);
+    let [first, second] = order.map(|unit| place(&run.shape, 0, unit).1.target);
+    run.fail(first);
+    run.fail(second);
+    run.swap(first);
+    run.repair();
+    run.swap(place(&run.shape, 0, 2).1.target);
+    run.swap(5);
+    run.swap(first);
+    for content in 0..3 {
+        run.look(0, content, 3);
+    }
+    run.swap(first);
+    run.swap(second);
+    run.panel();
+    run.read(0, 3);
+    run.out
+}
+
+/// A row over the years, from a file of drawn bytes on.
+fn years_run(index: u64, draws: &mut Draws) -> String {
+    let mut run = Run::fresh(index, drawn_layout(draws));
+    let capacity = run.shape.derived().capacity;
+    run.write(0, &drawn_bytes(draws, capacity));
+    for _ in 0..YEARS {
+        run.year(draws);
+    }
+    run.read(0, capacity);
     run.out
 }
 
@@ -228,11 +273,8 @@ impl Run {
     }
 
     fn event(&mut self, draws: &mut Draws) {
-        match draws.draw(18) {
-            0..=4 => {
-                let (offset, length) = drawn_range(draws, &self.shape);
-                self.write(offset, &drawn_bytes(draws, length));
-            }
+        match draws.draw(20) {
+            0..=4 => self.drawn_write(draws),
             5..=7 => {
                 let (offset, length) = drawn_range(draws, &self.shape);
                 self.read(offset, length);
@@ -243,8 +285,28 @@ impl Run {
             14 => self.scribble(draws),
             15 => self.bad(draws.draw(15)),
             16 => self.panel(),
-            _ => self.drawn_count(draws),
+            17 => self.drawn_count(draws),
+            _ => self.drawn_swap(draws),
         }
+    }
+
+    /// Drives die, one is taken for swapped too early, the row is repaired, a dead
+    /// drive gets other bytes, and drives are swapped.
+    fn year(&mut self, draws: &mut Draws) {
+        self.drawn_write(draws);
+        self.drawn_fail(draws);
+        self.drawn_fail(draws);
+        self.drawn_swap(draws);
+        self.repair();
+        self.scribble(draws);
+        self.drawn_swap(draws);
+        self.panel();
+        self.drawn_swap(draws);
+    }
+
+    fn drawn_write(&mut self, draws: &mut Draws) {
+        let (offset, length) = drawn_range(draws, &self.shape);
+        self.write(offset, &drawn_bytes(draws, length));
     }
 
     fn write(&mut self, offset: u64, bytes: &[u8]) {
@@ -275,6 +337,26 @@ impl Run {
         let (refusal, after) = fail(&self.shape, &self.record, &self.image, target);
         self.record = after;
         line!(self.out, "fail {} {}", target, refusal);
+        self.pool_line();
+    }
+
+    /// Mostly a drive of the list.
+    fn drawn_swap(&mut self, draws: &mut Draws) {
+        let Record { failed, k, .. } = self.record;
+        let target = match draws.draw(16) {
+            0 => self.shape.p,
+            1 => ONES,
+            2 | 3 => draws.draw(self.shape.p),
+            _ if k == 0 => failed[0],
+            _ => failed[draws.draw(k) as usize],
+        };
+        self.swap(target);
+    }
+
+    fn swap(&mut self, target: u64) {
+        let (refusal, after) = swap(&self.shape, &self.record, &mut self.image, target);
+        self.record = after;
+        line!(self.out, "swap {} {}", target, refusal);
         self.pool_line();
     }
 
@@ -413,7 +495,7 @@ impl Run {
         }
     }
 
-    /// All eight calls with arguments of which every call refuses some.
+    /// All nine calls with arguments of which every call refuses some.
     fn bad(&mut self, kind: u64) {
         let (shape, record, length) = self.bad_arguments(kind);
         let image = &mut self.image[..length];
@@ -422,6 +504,7 @@ impl Run {
         let writing = write(&shape, &record, image, 0, &[FILLER; 5]);
         let (failing, failed) = fail(&shape, &record, image, 0);
         let (repairing, repaired, count) = repair(&shape, &record, image);
+        let (swapping, swapped) = swap(&shape, &record, image, 0);
         let mut scratch = vec![FILLER; self.shape.u as usize];
         let preparing = prepare(&shape, &record, image, 0, 0, &mut scratch);
         let (showing, shown) = show(&shape, &record, image, &scratch, 0, 0);
@@ -438,6 +521,7 @@ impl Run {
             fields(&repaired),
             count
         );
+        line!(self.out, "swap {} {}", swapping, fields(&swapped));
         line!(
             self.out,
             "look {} {} {} {}",

@@ -111,6 +111,11 @@ pub(super) fn with_count(record: Record, waiting: u64) -> Record {
 
 /// What stood on a drive of an image of this row is gone.
 pub(super) fn wipe(image: &mut [u8], target: usize) {
+    fill_drive(image, target, 255);
+}
+
+/// Every byte of a drive of an image of this row becomes this one.
+pub(super) fn fill_drive(image: &mut [u8], target: usize, byte: u8) {
     let drive = image.len() / 5;
-    image[target * drive..(target + 1) * drive].fill(255);
+    image[target * drive..(target + 1) * drive].fill(byte);
 }
