@@ -4,8 +4,8 @@ use crate::draws::Draws;
 use oracle::layout::{gcd, Layout};
 use splicebell::raw::splicebell_layout;
 
-const MOST_TARGETS: u64 = 64;
-const MOST_UNIT_BYTES: u64 = 4096;
+pub const MOST_TARGETS: u64 = 64;
+pub const MOST_UNIT_BYTES: u64 = 4096;
 pub const MOST_TILES: u64 = 65_536;
 /// The model shuffles P targets for each of the W units of each group.
 const MOST_STEPS: u64 = 4_000_000;

@@ -127,15 +127,15 @@ fn round(bench: &mut Bench, seed: u64, number: u64) {
         FIRST_WIDE_SWAPS => return swaps::wide_round(bench),
         _ => {}
     }
-    match bench.draws.below(21) {
+    match bench.draws.below(24) {
         0 | 1 => places::round(bench),
         2 | 3 => groups::round(bench),
         4 | 5 => catalogues::round(bench),
         6 => texts::round(bench),
-        7..=9 => replays::round(bench),
-        10 | 11 => plans::round(bench),
-        12 | 13 => moves::round(bench),
-        14 | 15 => swaps::round(bench),
+        7..=10 => replays::round(bench),
+        11..=13 => plans::round(bench),
+        14 | 15 => moves::round(bench),
+        16 | 17 => swaps::round(bench),
         _ => pools::round(bench),
     }
 }

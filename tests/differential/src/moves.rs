@@ -7,7 +7,7 @@ use crate::draws::Draws;
 use crate::layouts::{self, is_light, MOST_TILES};
 use crate::move_kinds::{Back, Moved};
 use crate::move_rules::Library;
-use crate::plan_draws::aged;
+use crate::plan_draws::{aged, written};
 use crate::pool_calls::{fail, read, read_at, repair, write};
 use crate::pools::{Pool, RECOUNTED};
 use crate::records;
@@ -52,11 +52,8 @@ fn layout(draws: &mut Draws) -> Layout {
 /// A pool with no failures that holds a drawn file, or one of drawn bytes, often with no failures either.
 fn pool(draws: &mut Draws) -> Pool {
     let layout = layout(draws);
-    let mut pool = Pool::of(draws, layout);
-    if pool.holds_file {
-        let file = draws.bytes(layout.derived().capacity as usize);
-        oracle::pool::write(&layout, &pool.record, &mut pool.image, 0, &file);
-    } else if draws.one_in(2) {
+    let mut pool = written(draws, layout);
+    if !pool.holds_file && draws.one_in(2) {
         pool.record = records::empty(draws);
     }
     pool
@@ -177,7 +174,7 @@ pub fn bad_record(draws: &mut Draws, y: &Layout) -> Record {
 pub fn other_length(draws: &mut Draws, pool: &Pool) -> usize {
     let (right, file) = (pool.image.len(), pool.layout.derived().capacity as usize);
     let (any, bit) = (draws.wrong_length(right), 1 << draws.below(17));
-    draws.pick(&[right - 1, right + 1, file, any, right ^ bit])
+    draws.pick(&[0, right - 1, right + 1, file, any, right ^ bit])
 }
 
 /// A move of a pool with more groups than 16 bits tell apart, there and back. Such pools are too large for most rounds, so some

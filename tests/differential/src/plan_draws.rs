@@ -14,7 +14,7 @@ const USUAL_IMAGE: u64 = 640;
 /// One in so many layouts may have no parity, and then nothing is ever missing; one in so many has the most data units.
 const WITHOUT_PARITY: u64 = 20;
 const WIDEST: u64 = 25;
-const MOST_DATA: u64 = 16;
+pub const MOST_DATA: u64 = 16;
 /// One in so many plans is empty where the record counts nothing, which it may do wrongly.
 const UNCOUNTED: u64 = 5;
 
@@ -127,6 +127,11 @@ fn layout(draws: &mut Draws) -> Layout {
 /// A pool with no failures that holds a drawn file, or one of drawn bytes.
 pub fn pool(draws: &mut Draws) -> Pool {
     let layout = layout(draws);
+    written(draws, layout)
+}
+
+/// Such a pool of this layout.
+pub fn written(draws: &mut Draws, layout: Layout) -> Pool {
     let mut pool = Pool::of(draws, layout);
     if pool.holds_file {
         let file = draws.bytes(layout.derived().capacity as usize);

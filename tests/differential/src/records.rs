@@ -39,9 +39,9 @@ pub fn unrepaired(draws: &mut Draws, y: &Layout) -> Record {
     listed(draws, y, k, q)
 }
 
-/// A good record of failed targets that are all repaired. The layout has parity units.
+/// A good record of failed targets that are all repaired, often as many as may be. The layout has parity units.
 pub fn repaired(draws: &mut Draws, y: &Layout) -> Record {
-    let k = draws.between(1, y.k);
+    let k = draws.between(1, y.k).max(draws.between(1, y.k));
     listed(draws, y, k, k)
 }
 

@@ -1,7 +1,7 @@
 //! What swaps of a drive are like: each kind by its name, told of a swap as it was asked for and answered.
 
 use crate::count_kinds::Counted;
-use crate::layouts::MOST_TILES;
+use crate::layouts::{MOST_TILES, MOST_UNIT_BYTES};
 use crate::move_kinds::unit;
 use crate::pools::Pool;
 use crate::records;
@@ -26,7 +26,7 @@ type LaterTest = fn(&Counted) -> bool;
 
 /// Of accepted swaps, in edition 1 and in edition 2 each. A library that is wrong for one of these may be right for all
 /// others, so each must be met.
-pub const SWAP_KINDS: [(&str, Test); 36] = [
+pub const SWAP_KINDS: [(&str, Test); 37] = [
     ("the only one", |s| s.stands(1, 0)),
     ("the first of two", |s| s.stands(2, 0)),
     ("the last of two", |s| s.stands(2, 1)),
@@ -62,6 +62,7 @@ pub const SWAP_KINDS: [(&str, Test); 36] = [
     ("one group", |s| s.layout().derived().groups == 1),
     ("several tiles", |s| s.layout().t > 1),
     ("units of one byte", |s| s.layout().u == 1),
+    ("units of 4,096 bytes", |s| s.layout().u == MOST_UNIT_BYTES),
     ("more than 65,536 groups", |s| s.layout().derived().groups > MOST_TILES),
 ];
 

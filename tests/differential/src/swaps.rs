@@ -5,43 +5,72 @@ use crate::bench::{Bench, Trial};
 use crate::count_kinds::Counted;
 use crate::counts::{above, at_an_end, audit};
 use crate::draws::Draws;
+use crate::layouts::{MOST_TARGETS, MOST_UNIT_BYTES};
 use crate::lent::Lent;
+use crate::lists::write_list;
 use crate::move_kinds::{contents, Content};
 use crate::move_rules::put;
 use crate::moves::{bad_layout, bad_record, file_of, other_length, wide};
-use crate::plan_draws::{aged, pool};
-use crate::pool_calls::{
-    compare_record, fail, fail_target, read, read_at, repair, show, write, write_at,
-};
+use crate::plan_draws::{aged, pool, written, MOST_DATA};
+use crate::pool_calls::{compare_record, fail, fail_target, read_at, repair, show, write_at};
 use crate::pools::{Pool, RECOUNTED};
 use crate::swap_kinds::Swapped;
 use crate::swap_rules::Library;
 use crate::tally::Call;
-use crate::{plans, records};
+use crate::{layouts, moves, plans, records};
 use oracle::group::{encoded, Bytes};
+use oracle::layout::Layout;
 use oracle::pool_swap;
 
+/// Images of rows over the years are no longer, since every content is encoded afresh after each event.
+const LONGEST_YEARS: usize = 1 << 12;
 /// One in so many states is one in which drives may wait for repair.
 const UNREPAIRED: u64 = 4;
 /// One in so many new drives is of zeros.
 const BLANK: u64 = 4;
+/// In rows over the years, one in so many swaps is tried while drives wait for repair.
+const TOO_EARLY: u64 = 4;
+/// What may speak against a swap: drives that wait, a target that is not in the list, one outside, the record, the image's
+/// length, the layout.
+const WAITS: u64 = 1;
+const UNLISTED: u64 = 2;
+const OUTSIDE: u64 = 4;
+const RECORD: u64 = 8;
+const LENGTH: u64 = 16;
+const LAYOUT: u64 = 32;
+const FLAWS: [u64; 6] = [WAITS, UNLISTED, OUTSIDE, RECORD, LENGTH, LAYOUT];
 
 /// Calls on one row: over the years, or in several states.
 pub fn round(bench: &mut Bench) {
-    let start = pool(&mut bench.draws);
+    let start = start(&mut bench.draws);
     bench.tally.add_swap_layout(&start.layout);
-    if start.holds_file && bench.draws.one_in(2) {
+    let is_short = start.image.len() <= LONGEST_YEARS;
+    if start.holds_file && is_short && bench.draws.one_in(2) {
         return years(bench, start);
     }
     for _ in 0..bench.draws.between(3, 10) {
         let mut pool = state(&mut bench.draws, &start);
-        for _ in 0..bench.draws.between(1, 6) {
+        for _ in 0..bench.draws.between(1, 8) {
             if bench.draws.one_in(RECOUNTED) {
                 pool.recount(&mut bench.draws);
             }
             pool = step(bench, &pool).unwrap_or(pool);
         }
     }
+}
+
+/// A row of no failures that holds a file, or of drawn bytes: mostly such as plans are tried with, else one group of the
+/// longest units, the most targets or the most data units.
+fn start(draws: &mut Draws) -> Pool {
+    let (n, k) = (draws.between(1, 3), draws.between(1, 3));
+    let (n, p, u) = match draws.below(16) {
+        0..=2 => (n, n + 2 * k, MOST_UNIT_BYTES),
+        3 => (n, MOST_TARGETS, 1),
+        4 => (MOST_DATA, MOST_DATA + 2 * k + draws.below(3), 1),
+        _ => return pool(draws),
+    };
+    let (cookie, edition) = (layouts::cookie(draws), layouts::edition(draws));
+    written(draws, Layout { n, k, p, u, t: 1, cookie, edition })
 }
 
 /// The row some failures later, mostly with all of them repaired. One that holds no file has any bytes and any list.
@@ -74,18 +103,17 @@ fn put_in(draws: &mut Draws, pool: &mut Pool) {
 
 /// One call; what is left, where it may be another pool.
 fn step(bench: &mut Bench, pool: &Pool) -> Option<Pool> {
-    match bench.draws.below(14) {
-        0..=3 => flawed(bench, pool),
-        4 => {
+    match bench.draws.below(16) {
+        0..=4 => flawed(bench, pool),
+        5 => {
             let other = pool.damaged(&mut bench.draws);
             call(bench, &other);
         }
-        5 => {
+        6 => {
             let other = at_an_end(&mut bench.draws, pool);
             call(bench, &other);
         }
-        6 => read(bench, pool),
-        7 => return Some(write(bench, pool)),
+        7 => return Some(write_list(bench, pool)),
         8 => return Some(fail(bench, pool)),
         9 => return Some(repair(bench, pool)),
         _ => return Some(call(bench, pool)),
@@ -139,25 +167,28 @@ fn flawed(bench: &mut Bench, pool: &Pool) {
     if y.k == 0 {
         return drop(call(bench, pool));
     }
-    let (one, other) = (1 << draws.below(6), 1 << draws.below(6));
-    let any = draws.between(1, 63);
-    let flaws = draws.pick(&[one, one | other, one | other, any, 63]);
-    sent.record =
-        if flaws & 1 != 0 { records::unrepaired(draws, &y) } else { records::repaired(draws, &y) };
+    let [one, other, third] = [(); 3].map(|()| draws.pick(&FLAWS));
+    let (early, all) = (WAITS | UNLISTED, FLAWS.iter().sum());
+    let flaws = draws.pick(&[one, one, one | other, one | other | third, early | one, all]);
+    sent.record = if flaws & WAITS != 0 {
+        records::unrepaired(draws, &y)
+    } else {
+        records::repaired(draws, &y)
+    };
     let mut target = draws.pick(&sent.record.failed[..sent.record.k as usize]);
-    if flaws & 2 != 0 {
+    if flaws & UNLISTED != 0 {
         target = unlisted(draws, &sent);
     }
-    if flaws & 4 != 0 {
+    if flaws & OUTSIDE != 0 {
         target = outside(draws, &sent, target);
     }
-    if flaws & 8 != 0 {
+    if flaws & RECORD != 0 {
         spoil_record(draws, &mut sent);
     }
-    if flaws & 16 != 0 {
+    if flaws & LENGTH != 0 {
         sent.image.resize(other_length(draws, pool), draws.word() as u8);
     }
-    if flaws & 32 != 0 {
+    if flaws & LAYOUT != 0 {
         sent.layout = bad_layout(draws, &y);
     }
     swap(bench, &sent, target);
@@ -244,7 +275,7 @@ struct Row {
 fn years(bench: &mut Bench, pool: Pool) {
     let file = file_of(&pool);
     let mut row = Row { pool, file };
-    for _ in 0..bench.draws.between(20, 120) {
+    for _ in 0..bench.draws.between(20, 90) {
         row.event(bench);
         let mut afresh = row.pool.clone();
         encode_afresh(&mut afresh, &row.file);
@@ -256,13 +287,14 @@ impl Row {
     fn event(&mut self, bench: &mut Bench) {
         match bench.draws.below(16) {
             0..=1 => self.write(bench),
+            2 if bench.draws.one_in(4) => drop(moves::call(bench, &self.pool)),
             2 => audit(bench, &self.pool),
             3 => show(bench, &self.pool),
             4 => self.pool = plans::call(bench, &self.pool).unwrap_or(self.pool.clone()),
-            5..=6 => self.pool = repair(bench, &self.pool),
-            7..=10 if self.pool.record.k > 0 => self.take_back(bench),
-            7..=12 => self.lose(bench),
-            13 => self.take_back(bench),
+            5 => self.pool = repair(bench, &self.pool),
+            6..=10 if self.pool.record.k > 0 => self.take_back(bench),
+            6..=12 => self.lose(bench),
+            13 => self.pool = call(bench, &self.pool),
             _ => {
                 read_at(bench, &self.pool, 0, self.file.len(), Some(&self.file));
             }
@@ -285,8 +317,11 @@ impl Row {
         }
     }
 
-    /// Others scribble on failed drives; then one of these is a new one.
+    /// Mostly all drives are repaired first; others scribble on failed drives; then one of these is a new one.
     fn take_back(&mut self, bench: &mut Bench) {
+        if self.pool.record.q < self.pool.record.k && !bench.draws.one_in(TOO_EARLY) {
+            self.pool = repair(bench, &self.pool);
+        }
         self.pool.scribble(&mut bench.draws);
         put_in(&mut bench.draws, &mut self.pool);
         self.pool = call(bench, &self.pool);
