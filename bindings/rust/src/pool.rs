@@ -201,6 +201,40 @@ impl<'a> Pool<'a> {
         answered(answer.refusal, answer.count)
     }
 
+    /// Takes back a failed target, whose drive has been swapped for a new one: it leaves the record's list, the
+    /// others stay in order, and the bytes of every content go to its home under the shorter list. What the new
+    /// drive held before does not matter. [`Refusal::NoSuchRecord`](crate::Refusal::NoSuchRecord) where the target
+    /// is not in the list, [`Refusal::NotRepaired`](crate::Refusal::NotRepaired) where one of the list awaits
+    /// repair; refused, nothing has changed.
+    ///
+    /// ```
+    /// use splicebell::{Layout, Pool, Record, Refusal};
+    ///
+    /// let layout = Layout { n: 1, k: 1, p: 4, u: 4, t: 1, cookie: 0, edition: 1 };
+    /// let mut image = [0; 48];
+    /// let mut pool = Pool::new(layout, &mut image);
+    /// pool.write(0, b"a red bag")?;
+    /// pool.fail(3)?;
+    /// assert_eq!(pool.swap(3), Err(Refusal::NotRepaired));
+    /// pool.repair()?;
+    ///
+    /// let new_drive = &mut pool.image_mut()[36..];
+    /// new_drive.fill(0xee);
+    /// pool.swap(3)?;
+    /// assert_eq!(pool.record(), Record::default());
+    /// let mut seen = [0; 9];
+    /// pool.read(0, &mut seen)?;
+    /// assert_eq!(&seen, b"a red bag");
+    /// assert_eq!(pool.swap(3), Err(Refusal::NoSuchRecord));
+    /// # Ok::<(), Refusal>(())
+    /// ```
+    pub fn swap(&mut self, target: u64) -> Result<()> {
+        let (y, r) = self.to_raw();
+        let answer = calls::swap(y, r, self.image, target);
+        self.record = Record::from_raw(answer.record);
+        answered(answer.refusal, ())
+    }
+
     /// Tests a plan of repair: [`Refusal::BadPlan`](crate::Refusal::BadPlan) where it is not accepted.
     ///
     /// A plan is one entry after another, in any order, each of N+2 numbers: a group, one of its contents, and

@@ -36,7 +36,7 @@ pub enum Refusal {
     BadCatalogue = 9,
     /// 10: catalogue full and the key is new.
     CatalogueFull = 10,
-    /// 11: no such record.
+    /// 11: no such record, or a target that is not in the failure list.
     NoSuchRecord = 11,
     /// 12: a text that is not the hex lines of a pool of this layout. A [`TextRefusal`] tells the line.
     WrongLine = 12,
@@ -46,6 +46,8 @@ pub enum Refusal {
     WrongCount = 14,
     /// 15: a plan of repair that is not accepted. [`Pool::check_plan`](crate::Pool::check_plan) tells when one is.
     BadPlan = 15,
+    /// 16: q is not k: a target cannot be taken back before all are repaired.
+    NotRepaired = 16,
 }
 
 /// What a call answers: its value, or why it was refused.
@@ -53,7 +55,7 @@ pub type Result<T> = std::result::Result<T, Refusal>;
 
 impl Refusal {
     /// Every refusal, in the order of its number.
-    pub const ALL: [Refusal; 15] = [
+    pub const ALL: [Refusal; 16] = [
         Refusal::BadLayout,
         Refusal::BadImageLength,
         Refusal::BadRecord,
@@ -69,14 +71,15 @@ impl Refusal {
         Refusal::BadTrace,
         Refusal::WrongCount,
         Refusal::BadPlan,
+        Refusal::NotRepaired,
     ];
 
-    /// The number of this refusal, 1 to 15.
+    /// The number of this refusal, 1 to 16.
     pub fn number(self) -> u64 {
         self as u64
     }
 
-    /// The refusal of a number; none for 0, which means accepted, and for numbers above 15.
+    /// The refusal of a number; none for 0, which means accepted, and for numbers above 16.
     pub fn from_number(number: u64) -> Option<Refusal> {
         Refusal::ALL.into_iter().find(|refusal| refusal.number() == number)
     }
@@ -100,13 +103,16 @@ impl Refusal {
                 "catalogue bad: count above the slice, or keys not strictly rising"
             }
             Refusal::CatalogueFull => "catalogue full and the key is new",
-            Refusal::NoSuchRecord => "no such record",
+            Refusal::NoSuchRecord => "no such record; a target that is not in the failure list",
             Refusal::WrongLine => "a text that is not the hex lines of a pool of this layout",
             Refusal::BadTrace => {
                 "a malformed line of a trace, or a pool too large for a replay"
             }
             Refusal::WrongCount => "the record's count of missing units is not the true one",
             Refusal::BadPlan => "a plan of repair that is not accepted",
+            Refusal::NotRepaired => {
+                "q is not k: a target cannot be taken back before all are repaired"
+            }
         }
     }
 }
@@ -235,8 +241,8 @@ pub(crate) fn answered<T>(number: u64, value: T) -> Result<T> {
 #[cfg(test)]
 mod tests {
     #[test]
-    #[should_panic(expected = "the library answered 16")]
+    #[should_panic(expected = "the library answered 17")]
     fn a_number_outside_the_table_stops_the_program() {
-        let _ = super::answered(16, ());
+        let _ = super::answered(17, ());
     }
 }

@@ -92,6 +92,39 @@ fn a_pool_of_either_edition_keeps_its_file() -> Result<(), Refusal> {
     Ok(())
 }
 
+/// The bytes of every content at its own place, group after group.
+fn contents(layout: Layout, image: &[u8]) -> Result<Vec<u8>, Refusal> {
+    let mut bytes = Vec::new();
+    for group in 0..layout.measure()?.groups {
+        for content in 0..layout.n + layout.k {
+            let begins = layout.place(group, content)?.begins as usize;
+            bytes.extend_from_slice(&image[begins..][..layout.u as usize]);
+        }
+    }
+    Ok(bytes)
+}
+
+#[test]
+fn drives_are_taken_back_in_either_edition() -> Result<(), Refusal> {
+    for layout in [FIRST, SECOND] {
+        for order in [[5, 1], [1, 5]] {
+            let mut image = written(layout)?;
+            let mut pool = Pool::new(layout, &mut image);
+            pool.fail(5)?;
+            pool.fail(1)?;
+            pool.repair()?;
+            for target in order {
+                let drive = IMAGE_LENGTH / layout.p as usize;
+                pool.image_mut()[target as usize * drive..][..drive].fill(0xee);
+                pool.swap(target)?;
+                assert_eq!(shown(&pool)?, photograph());
+            }
+            assert_eq!(contents(layout, pool.image())?, contents(layout, &written(layout)?)?);
+        }
+    }
+    Ok(())
+}
+
 /// docs/ABI.md says so: an image does not tell its edition, so no call can refuse the other one.
 #[test]
 fn an_image_taken_for_the_other_edition_shows_other_bytes() -> Result<(), Refusal> {
@@ -179,6 +212,7 @@ fn another_edition_is_refused_by_every_call_of_a_pool() -> Result<(), Refusal> {
             pool.write_pieces(&[(0, b"again")]).err().map(Refusal::from),
             pool.fail(5).err(),
             pool.repair().err(),
+            pool.swap(5).err(),
             pool.check_plan(&[]).err(),
             pool.repair_by(&[]).err(),
             pool.draw_plan(&mut plan).err(),
@@ -186,7 +220,7 @@ fn another_edition_is_refused_by_every_call_of_a_pool() -> Result<(), Refusal> {
             pool.panel().err(),
             pool.audit().err(),
         ];
-        assert_eq!(refused, [Some(Refusal::BadLayout); 14]);
+        assert_eq!(refused, [Some(Refusal::BadLayout); 15]);
         assert_eq!((outputs, plan, into), ([[0; 3]; 4], [9; 4], [0; IMAGE_LENGTH]));
         assert_eq!((pool.image(), pool.record()), (&before[..], Default::default()));
     }

@@ -146,6 +146,7 @@ fn refused_calls_leave_zeros_in_outputs_and_the_rest_alone() {
     assert_eq!(pool.write(0, &[2]), Err(Refusal::BadRecord));
     assert_eq!(pool.repair(), Err(Refusal::BadRecord));
     assert_eq!(pool.fail(6), Err(Refusal::BadRecord));
+    assert_eq!(pool.swap(4), Err(Refusal::BadRecord));
     assert_eq!(pool.record(), twice);
     assert!(image.iter().all(|byte| *byte == 1));
     let mut group = [8; 11];
@@ -278,6 +279,7 @@ fn a_count_above_all_contents_is_a_bad_record() {
         assert_eq!(listed.map_err(Refusal::from), Err(Refusal::BadRecord));
         assert_eq!(pool.fail(7), Err(Refusal::BadRecord));
         assert_eq!(pool.repair(), Err(Refusal::BadRecord));
+        assert_eq!(pool.swap(7), Err(Refusal::BadRecord));
         assert_eq!(pool.panel(), Err(Refusal::BadRecord));
         assert_eq!(pool.audit(), Err(Refusal::BadRecord));
         assert_eq!(pool.record(), waiting(count));
@@ -727,6 +729,186 @@ fn a_refused_move_leaves_zeros_and_the_old_image_alone() {
     }
 }
 
+/// Where each content begins, group after group, on a pool that misses none.
+fn homes(pool: &Pool) -> Result<Vec<usize>, Refusal> {
+    let image = pool.image().as_ptr() as usize;
+    let mut homes = Vec::new();
+    for group in 0..LAYOUT.measure()?.groups {
+        for content in 0..LAYOUT.n + LAYOUT.k {
+            let mut scratch = [0; 3];
+            homes.push(pool.look(group, content, &mut scratch)?.as_ptr() as usize - image);
+        }
+    }
+    Ok(homes)
+}
+
+/// The same pool, repaired; what its dead drives hold stays.
+fn repaired((mut image, record): (Vec<u8>, Record)) -> Result<(Vec<u8>, Record), Refusal> {
+    let mut pool = Pool::with_record(LAYOUT, record, &mut image);
+    pool.repair()?;
+    let record = pool.record();
+    Ok((image, record))
+}
+
+/// Takes a target back, and answers whether a content went to where another came from.
+fn swapped(pool: &mut Pool, target: u64) -> Result<bool, Refusal> {
+    let (before, old) = (pool.image().to_vec(), homes(pool)?);
+    pool.swap(target)?;
+    let new = homes(pool)?;
+    let mut wanted = before.clone();
+    for (from, to) in old.iter().zip(&new) {
+        wanted[*to..][..3].copy_from_slice(&before[*from..][..3]);
+    }
+    assert_eq!(pool.image(), wanted);
+    let moved = |at: &usize| new[*at] != old[*at];
+    Ok((0..new.len()).filter(moved).any(|at| old.contains(&new[at])))
+}
+
+/// Any bytes may stand in the image: a swap moves them as they are, and changes no others.
+#[test]
+fn a_swap_takes_every_content_to_its_new_home() -> Result<(), Refusal> {
+    let mut one_behind_another = false;
+    let pools = [
+        repaired(with_dead_drives()?)?,
+        repaired(with_a_dead_drive_after_a_repair()?)?,
+        repaired(of_any_bytes(&[5])?)?,
+        repaired(of_any_bytes(&[0, 6])?)?,
+    ];
+    for (image, record) in pools {
+        for target in &record.failed[..record.k as usize] {
+            let mut image = image.clone();
+            let mut pool = Pool::with_record(LAYOUT, record, &mut image);
+            let file = whole_file(&pool)?;
+            one_behind_another |= swapped(&mut pool, *target)?;
+            assert_eq!(whole_file(&pool)?, file);
+            pool.audit()?;
+        }
+    }
+    assert!(one_behind_another);
+    Ok(())
+}
+
+/// Each content is at its own place again, as in a pool that never lost a drive; only spares may hold something.
+#[test]
+fn a_row_with_all_drives_taken_back_is_whole() -> Result<(), Refusal> {
+    let (mut image, record) = repaired(with_dead_drives()?)?;
+    let mut pool = Pool::with_record(LAYOUT, record, &mut image);
+    for target in [5, 1] {
+        scribble(&mut pool, target);
+        pool.swap(target)?;
+    }
+    assert_eq!(pool.record(), Record::default());
+    let mut file = whole_file(&pool)?;
+    let mut afresh = blank_image();
+    Pool::new(LAYOUT, &mut afresh).write(0, &file)?;
+    for home in homes(&pool)? {
+        assert_eq!(pool.image()[home..][..3], afresh[home..][..3]);
+    }
+    for target in [1, 4] {
+        pool.fail(target)?;
+        scribble(&mut pool, target);
+    }
+    pool.write(4, b"again")?;
+    file[4..9].copy_from_slice(b"again");
+    assert_eq!(whole_file(&pool)?, file);
+    pool.audit()?;
+    assert_eq!(pool.repair()?, contents_on(1)? + contents_on(4)?);
+    assert_eq!(whole_file(&pool)?, file);
+    Ok(())
+}
+
+/// The limit is on drives that have failed at one time.
+#[test]
+fn drives_fail_and_come_back_without_end() -> Result<(), Refusal> {
+    let mut image = blank_image();
+    let mut pool = failed_after_a_repair(&mut image)?;
+    let file = photograph(LAYOUT.measure()?.capacity as usize);
+    pool.write(0, &file)?;
+    for target in [3, 0, 5, 6, 2, 4, 1, 0, 3] {
+        assert_eq!(pool.fail(target), Err(Refusal::Dud));
+        pool.repair()?;
+        let oldest = pool.record().failed[0];
+        scribble(&mut pool, oldest);
+        pool.swap(oldest)?;
+        pool.fail(target)?;
+        scribble(&mut pool, target);
+        assert_eq!(whole_file(&pool)?, file);
+        pool.audit()?;
+    }
+    Ok(())
+}
+
+/// Entries from k on are never read, and a count is not looked at.
+#[test]
+fn a_swap_changes_no_more_of_the_record_than_it_says() -> Result<(), Refusal> {
+    let mut image = blank_image();
+    let record = Record { failed: [5, 1, 9], k: 2, q: 2, waiting: ALL_CONTENTS };
+    for (target, left) in [(5, 1), (1, 5)] {
+        let mut pool = Pool::with_record(LAYOUT, record, &mut image);
+        pool.swap(target)?;
+        let shorter = Record { failed: [left, 0, 9], k: 1, q: 1, ..record };
+        assert_eq!(pool.record(), shorter);
+        pool.swap(left)?;
+        assert_eq!(pool.record(), Record { failed: [0, 0, 9], k: 0, q: 0, ..record });
+    }
+    Ok(())
+}
+
+#[test]
+fn the_other_drives_stay_in_order() -> Result<(), Refusal> {
+    let of_three = Layout { k: 3, p: 9, ..LAYOUT };
+    let mut image = vec![0; of_three.measure()?.image as usize];
+    let record = Record { failed: [8, 2, 5], k: 3, q: 3, waiting: 0 };
+    for (target, failed) in [(8, [2, 5, 0]), (2, [8, 5, 0]), (5, [8, 2, 0])] {
+        let mut pool = Pool::with_record(of_three, record, &mut image);
+        pool.swap(target)?;
+        assert_eq!(pool.record(), Record { failed, k: 2, q: 2, ..record });
+    }
+    Ok(())
+}
+
+/// What a swap is refused with, on an image of this length.
+fn swap_refused(layout: Layout, record: Record, length: usize, target: u64) -> Refusal {
+    let mut image = vec![1; length];
+    let mut pool = Pool::with_record(layout, record, &mut image);
+    let refusal = pool.swap(target).expect_err("the swap is refused");
+    assert_eq!(pool.record(), record);
+    assert_eq!(image, vec![1; length]);
+    refusal
+}
+
+#[test]
+fn a_refused_swap_changes_nothing() {
+    let right = blank_image().len();
+    let unfailed = Record { q: 1, ..Record::default() };
+    let twice = Record { failed: [4; 3], k: 2, q: 1, waiting: 5 };
+    let without_end = Record { k: u64::MAX, ..Record::default() };
+    let bad = Layout { p: 65, ..LAYOUT };
+    for length in [0, right, right + 1] {
+        assert_eq!(swap_refused(bad, unfailed, length, 9), Refusal::BadLayout);
+    }
+    for wrong in [0, right - 1, right + 1, 2 * right] {
+        assert_eq!(swap_refused(LAYOUT, unfailed, wrong, 9), Refusal::BadImageLength);
+    }
+    for record in [unfailed, twice, without_end, waiting(ALL_CONTENTS + 1)] {
+        assert_eq!(swap_refused(LAYOUT, record, right, 9), Refusal::BadRecord);
+    }
+    for q in 0..=2 {
+        let failed = Record { failed: [5, 1, 3], k: 2, q, waiting: 7 };
+        for target in [7, 9, u64::MAX] {
+            assert_eq!(swap_refused(LAYOUT, failed, right, target), Refusal::Outside);
+        }
+        for target in [0, 2, 3, 4, 6] {
+            assert_eq!(swap_refused(LAYOUT, failed, right, target), Refusal::NoSuchRecord);
+        }
+        if q < 2 {
+            assert_eq!(swap_refused(LAYOUT, failed, right, 5), Refusal::NotRepaired);
+            assert_eq!(swap_refused(LAYOUT, failed, right, 1), Refusal::NotRepaired);
+        }
+    }
+    assert_eq!(swap_refused(LAYOUT, Record::default(), right, 0), Refusal::NoSuchRecord);
+}
+
 #[test]
 fn a_replayed_day_leaves_what_its_calls_leave() -> Result<(), Refusal> {
     let day = "02 02 07 0003 000002 000000000000000b\n\
@@ -973,6 +1155,7 @@ fn a_thread_of_64_kib_is_enough() {
         let mut upgraded = vec![0; pool.image().len()];
         pool.move_edition(&mut upgraded)?;
         pool.repair()?;
+        pool.swap(7)?;
         pool.read(1, &mut file)
     });
 }

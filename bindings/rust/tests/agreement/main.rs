@@ -68,6 +68,7 @@ fn rust_lines() -> Vec<String> {
         splicebell_list_written { refusal range }
         splicebell_repaired { refusal count record { failed k q waiting } }
         splicebell_drawn { refusal length }
+        splicebell_swapped { refusal record { failed k q waiting } }
         splicebell_counts { refusal waiting failed repaired }
         splicebell_shown { refusal missing begins length }
         splicebell_wide { first second }
@@ -198,6 +199,6 @@ fn with_common_names(mut functions: Functions) -> Functions {
 
 #[test]
 fn the_sources_were_read() {
-    assert_eq!(c_functions(&file(HEADER)).len(), 32);
-    assert_eq!(c_structs(&file(HEADER)).len(), 28);
+    assert_eq!(c_functions(&file(HEADER)).len(), 33);
+    assert_eq!(c_structs(&file(HEADER)).len(), 29);
 }

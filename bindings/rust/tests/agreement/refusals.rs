@@ -27,7 +27,7 @@ fn on_a_full_catalogue<T>(call: impl Fn(&mut Catalogue) -> Result<T, Refusal>) -
 }
 
 /// What the library says to a call of each kind, in the order of the numbers.
-fn provoked() -> [Option<Refusal>; 15] {
+fn provoked() -> [Option<Refusal>; 16] {
     let nothing_failed = Record::default();
     let one_failed = Record { failed: [2, 0, 0], k: 1, q: 0, waiting: 2 };
     let repaired_unfailed = Record { q: 1, ..nothing_failed };
@@ -48,6 +48,7 @@ fn provoked() -> [Option<Refusal>; 15] {
         Layout::from_first_line(b"").err(),
         on_a_pool(one_waits_unfailed, |pool| pool.audit()),
         on_a_pool(one_failed, |pool| pool.repair_by(&[])),
+        on_a_pool(one_failed, |pool| pool.swap(2)),
     ]
 }
 
@@ -63,7 +64,7 @@ fn numbers_lead_back_to_their_refusal() {
         assert_eq!(Refusal::from_number(number), Some(refusal));
     }
     assert_eq!(Refusal::from_number(0), None);
-    assert_eq!(Refusal::from_number(16), None);
+    assert_eq!(Refusal::from_number(17), None);
 }
 
 /// docs/TRACE.md quotes document 01's table as `number: words`. What document 02 adds stands behind `; `.
