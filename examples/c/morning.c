@@ -1,4 +1,4 @@
-/* A kiosk's morning, called from C. The Rust program in ../rust tells the same story in the same words. */
+/* A kiosk's morning and afternoon, called from C. The Rust program in ../rust tells the same story in the same words. */
 #include "splicebell.h"
 
 #include <inttypes.h>
@@ -16,7 +16,7 @@ static const char first[] = "Mrs Abel: a red suitcase";
 static const char second[] = "Mr Zorn: two skis";
 static const char weight[] = "7.4 kg";
 static const char tag[] = "tag 0217";
-enum { SECOND_AT = 24, WEIGHT_AT = 48, TAG_AT = 56, TOO_FAR = 76, LOST = 2 };
+enum { SECOND_AT = 24, WEIGHT_AT = 48, TAG_AT = 56, TOO_FAR = 76, LOST = 2, LOST_LATER = 4 };
 enum { FRAMES = 4, ENTRY = 2 + 2 }; /* of a drive; the numbers of an entry of a plan */
 
 typedef struct pool {
@@ -101,6 +101,18 @@ static void end_session(pool p) {
     accepted(store_session(p, TAG_AT).refusal);
     printf("Then \"%s\" is stored at %d, \"%s\" at %d, \"%s\" at %d, in one call.\n", second, SECOND_AT, weight,
            WEIGHT_AT, tag, TAG_AT);
+}
+
+/* A drive dies. */
+static pool lose(pool p, uint64_t target) {
+    splicebell_failed failed = splicebell_fail(p.layout, p.record, p.image, p.length, target);
+    accepted(failed.refusal);
+    p.record = failed.record;
+    size_t drive = p.length / p.layout.p;
+    memset(p.image + target * drive, 0xff, drive);
+    printf("Drive %" PRIu64 " dies, and what stood on it is lost.\n", target);
+    panel(p);
+    return p;
 }
 
 /* The row controller takes the groups in an order of its own: our plan with its last entry first. */
@@ -191,26 +203,66 @@ static void upgrade(pool p) {
     free(images);
 }
 
+/* Whether every data and parity unit stands at its own place with the bytes that it had there. */
+static int same_units(pool p, const uint8_t *before, uint64_t groups) {
+    for (uint64_t group = 0; group < groups; group++) {
+        for (uint64_t unit = 0; unit < p.layout.n + p.layout.k; unit++) {
+            splicebell_placed place = splicebell_find_place(p.layout, group, unit);
+            accepted(place.refusal);
+            if (memcmp(p.image + place.begins, before + place.begins, p.layout.u) != 0) {
+                return 0;
+            }
+        }
+    }
+    return 1;
+}
+
+/* A new drive, with anything on it, is put in for the dead one. */
+static pool take_back(pool p, uint64_t target) {
+    size_t drive = p.length / p.layout.p;
+    memset(p.image + target * drive, 0xee, drive);
+    splicebell_swapped swapped = splicebell_swap(p.layout, p.record, p.image, p.length, target);
+    accepted(swapped.refusal);
+    p.record = swapped.record;
+    printf("In the afternoon drive %" PRIu64 " is swapped for a new one, and taken back.\n", target);
+    panel(p);
+    return p;
+}
+
+/* The row is whole again, so another drive may die. */
+static void afternoon(pool p, const uint8_t *before, uint64_t groups) {
+    printf("While drive %d is dead, the death of drive %d is refused with %" PRIu64 ".\n", LOST, LOST_LATER,
+           splicebell_fail(p.layout, p.record, p.image, p.length, LOST_LATER).refusal);
+    p = take_back(p, LOST);
+    printf("All data and parity units are %s before it died.\n",
+           same_units(p, before, groups) ? "what they were" : "not what they were");
+    printf("To take it back again is refused with %" PRIu64 ".\n",
+           splicebell_swap(p.layout, p.record, p.image, p.length, LOST).refusal);
+    p = lose(p, LOST_LATER);
+    show(p, 0, strlen(first));
+    show(p, SECOND_AT, strlen(second));
+    show(p, TAG_AT, strlen(tag));
+}
+
 int main(void) {
     splicebell_measured measured = splicebell_measure(row);
     accepted(measured.refusal);
     pool p = {.layout = row, .image = calloc(measured.numbers.image, 1), .length = measured.numbers.image};
-    if (p.image == NULL) {
+    uint8_t *before = malloc(p.length);
+    if (p.image == NULL || before == NULL) {
         return EXIT_FAILURE;
     }
     printf("A row of 5 drives holds a file of %" PRIu64 " bytes.\n", measured.numbers.capacity);
     store(p, 0, first);
     end_session(p);
 
-    splicebell_failed failed = splicebell_fail(p.layout, p.record, p.image, p.length, LOST);
-    accepted(failed.refusal);
-    p.record = failed.record;
-    memset(p.image + LOST * (p.length / row.p), 0xff, p.length / row.p);
-    printf("Drive %d dies, and what stood on it is lost.\n", LOST);
-    panel(p);
+    memcpy(before, p.image, p.length);
+    p = lose(p, LOST);
     show(p, 0, strlen(first));
     show(p, SECOND_AT, strlen(second));
     show(p, TAG_AT, strlen(tag));
+    printf("A new drive %d is refused with %" PRIu64 " before the row is repaired.\n", LOST,
+           splicebell_swap(p.layout, p.record, p.image, p.length, LOST).refusal);
 
     splicebell_repaired repaired = repair_by(p, propose(p));
     accepted(repaired.refusal);
@@ -223,6 +275,8 @@ int main(void) {
     dump(p, measured.numbers.frames);
     mail(p, measured.numbers.frames);
     upgrade(p);
+    afternoon(p, before, measured.numbers.groups);
+    free(before);
     free(p.image);
     return EXIT_SUCCESS;
 }

@@ -1,4 +1,4 @@
-//! A kiosk's morning, called from Rust. The C program in ../c tells the same story in the same words.
+//! A kiosk's morning and afternoon, called from Rust. The C program in ../c tells the same story in the same words.
 use splicebell::{Layout, ListRefusal, Panel, Pool, Result};
 
 /// Two data units, one parity unit and one spare a group, over five drives; units of eight bytes.
@@ -11,7 +11,8 @@ const SECOND_AT: u64 = 24;
 const WEIGHT_AT: u64 = 48;
 const TAG_AT: u64 = 56;
 const TOO_FAR: u64 = 76;
-const LOST: usize = 2;
+const LOST: u64 = 2;
+const LOST_LATER: u64 = 4;
 const ENTRY: usize = 2 + 2;
 
 fn store(pool: &mut Pool, at: u64, photograph: &str) -> Result<()> {
@@ -69,6 +70,20 @@ fn end_session(pool: &mut Pool) -> Result<()> {
         "Then \"{SECOND}\" is stored at {SECOND_AT}, \"{WEIGHT}\" at {WEIGHT_AT}, \"{TAG}\" at {TAG_AT}, in one call."
     );
     Ok(())
+}
+
+/// The bytes of one drive.
+fn drive<'a>(pool: &'a mut Pool, target: u64) -> &'a mut [u8] {
+    let length = pool.image().len() / ROW.p as usize;
+    &mut pool.image_mut()[target as usize * length..][..length]
+}
+
+/// A drive dies.
+fn lose(pool: &mut Pool, target: u64) -> Result<()> {
+    pool.fail(target)?;
+    drive(pool, target).fill(0xff);
+    println!("Drive {target} dies, and what stood on it is lost.");
+    panel(pool)
 }
 
 /// The row controller takes the groups in an order of its own: our plan with its last entry first. An entry has a
@@ -145,22 +160,59 @@ fn upgrade(pool: &Pool) -> Result<()> {
     Ok(())
 }
 
+/// Whether every data and parity unit stands at its own place with the bytes that it had there.
+fn same_units(pool: &Pool, before: &[u8], groups: u64) -> Result<bool> {
+    for group in 0..groups {
+        for unit in 0..ROW.n + ROW.k {
+            let begins = ROW.place(group, unit)?.begins as usize;
+            let its_bytes = begins..begins + ROW.u as usize;
+            if pool.image()[its_bytes.clone()] != before[its_bytes] {
+                return Ok(false);
+            }
+        }
+    }
+    Ok(true)
+}
+
+/// A new drive, with anything on it, is put in for the dead one.
+fn take_back(pool: &mut Pool, target: u64) -> Result<()> {
+    drive(pool, target).fill(0xee);
+    pool.swap(target)?;
+    println!("In the afternoon drive {target} is swapped for a new one, and taken back.");
+    panel(pool)
+}
+
+/// The row is whole again, so another drive may die.
+fn afternoon(pool: &mut Pool, before: &[u8], groups: u64) -> Result<()> {
+    let dud = pool.fail(LOST_LATER).expect_err("one drive is dead").number();
+    println!("While drive {LOST} is dead, the death of drive {LOST_LATER} is refused with {dud}.");
+    take_back(pool, LOST)?;
+    let are =
+        if same_units(pool, before, groups)? { "what they were" } else { "not what they were" };
+    println!("All data and parity units are {are} before it died.");
+    let again = pool.swap(LOST).expect_err("it is back").number();
+    println!("To take it back again is refused with {again}.");
+    lose(pool, LOST_LATER)?;
+    show(pool, 0, FIRST.len())?;
+    show(pool, SECOND_AT, SECOND.len())?;
+    show(pool, TAG_AT, TAG.len())
+}
+
 fn main() -> Result<()> {
     let numbers = ROW.measure()?;
     let mut image = vec![0; numbers.image as usize];
-    let drive = image.len() / ROW.p as usize;
     let mut pool = Pool::new(ROW, &mut image);
     println!("A row of 5 drives holds a file of {} bytes.", numbers.capacity);
     store(&mut pool, 0, FIRST)?;
     end_session(&mut pool)?;
 
-    pool.fail(LOST as u64)?;
-    pool.image_mut()[LOST * drive..][..drive].fill(0xff);
-    println!("Drive {LOST} dies, and what stood on it is lost.");
-    panel(&pool)?;
+    let before = pool.image().to_vec();
+    lose(&mut pool, LOST)?;
     show(&pool, 0, FIRST.len())?;
     show(&pool, SECOND_AT, SECOND.len())?;
     show(&pool, TAG_AT, TAG.len())?;
+    let too_early = pool.swap(LOST).expect_err("units are missing").number();
+    println!("A new drive {LOST} is refused with {too_early} before the row is repaired.");
 
     let proposed = propose(&pool)?;
     let missing = repair_by(&mut pool, &proposed)?;
@@ -171,5 +223,6 @@ fn main() -> Result<()> {
     println!("The drives now, each line a drive, a frame and its bytes:");
     dump(&pool, numbers.frames)?;
     mail(&pool)?;
-    upgrade(&pool)
+    upgrade(&pool)?;
+    afternoon(&mut pool, &before, numbers.groups)
 }
