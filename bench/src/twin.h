@@ -24,6 +24,8 @@ splicebell_repaired twin_repair_by(splicebell_layout y, splicebell_record r, uin
                                    const uint64_t *plan, size_t plan_len);
 splicebell_drawn twin_draw_plan(splicebell_layout y, splicebell_record r, const uint8_t *image, size_t image_len,
                                 uint64_t *plan, size_t plan_len);
+splicebell_swapped twin_swap(splicebell_layout y, splicebell_record r, uint8_t *image, size_t image_len,
+                             uint64_t target);
 uint64_t twin_move_edition(splicebell_layout y, splicebell_record r, const uint8_t *old_image, size_t old_image_len,
                            uint8_t *new_image, size_t new_image_len);
 uint64_t twin_write_text(splicebell_layout y, const uint8_t *image, size_t image_len, uint8_t *text, size_t text_len);

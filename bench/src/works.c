@@ -10,6 +10,8 @@
  *     count:panel:8+2:24:20:ours      a call about the count of missing units: code, targets, tiles
  *     plan:repair:8+2:20:1:ours       a call about repair by a plan, on 24 targets: code, tiles, failures
  *     move:1 to 2:8+2:4096:20:1:ours  a move between editions, on 24 targets: code, bytes of a unit, tiles, failures
+ *     swap:8+2:4096:20:2:1:ours       a drive taken back, on 24 targets: code, bytes of a unit, tiles, failures, and
+ *                                     which of them comes back, from 1 on
  */
 #include "catalogue.h"
 #include "coders.h"
@@ -17,6 +19,7 @@
 #include "moves.h"
 #include "plans.h"
 #include "products.h"
+#include "swaps.h"
 #include "texts.h"
 #include "twin.h"
 
@@ -147,6 +150,16 @@ static int work_on_move(const char *name, long repeats)
     return repeat(move_whole_pool, &x, repeats, p.m.capacity, 1);
 }
 
+static int work_on_swap(const char *name, long repeats)
+{
+    char who[20];
+    int n, k, unit, tiles, failed, back;
+    must(sscanf(name, "swap:%d+%d:%d:%d:%d:%d:%19[^:]", &n, &k, &unit, &tiles, &failed, &back, who) == 7, name);
+    struct pool p = pool_of(n, k, 24, unit, tiles);
+    struct swap x = swap_of(&p, failed, back - 1, strcmp(who, "ours") == 0 ? &our_swapper : &twin_swapper);
+    return repeat(take_back, &x, repeats, routes_of(&x).count * (double)unit, 1);
+}
+
 static int work_on_pairs(const char *name, long repeats)
 {
     static struct pairs p;
@@ -176,6 +189,8 @@ int do_work(const char *name, long repeats)
         return work_on_plan(name, repeats);
     if (strncmp(name, "move:", 5) == 0)
         return work_on_move(name, repeats);
+    if (strncmp(name, "swap:", 5) == 0)
+        return work_on_swap(name, repeats);
     return work_on_group(name, repeats);
 }
 
@@ -251,6 +266,18 @@ static void list_moves(void)
             }
 }
 
+/* Over pools of 2 MB. */
+static void list_swaps(void)
+{
+    static const char *const pools[] = {"8+2:4096:20", "8+2:512:160"};
+    for (size_t i = 0; i < sizeof pools / sizeof *pools; i++)
+        for (int failed = 1; failed <= 2; failed++)
+            for (int back = 1; back <= failed; back++) {
+                printf("swap:%s:%d:%d:ours\n", pools[i], failed, back);
+                printf("swap:%s:%d:%d:Rust twin\n", pools[i], failed, back);
+            }
+}
+
 int list_works(void)
 {
     printf("product:ours\nproduct:shifting\nproduct:Rust twin\n");
@@ -263,5 +290,6 @@ int list_works(void)
     list_counts();
     list_plans();
     list_moves();
+    list_swaps();
     return 0;
 }

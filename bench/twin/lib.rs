@@ -12,6 +12,7 @@ mod layout;
 mod list;
 mod plan;
 mod pool;
+mod swap;
 mod text;
 
 use catalogue::{Changed, Entry, Found, Key, Page, Wide};
@@ -43,6 +44,12 @@ pub struct Repaired {
 
 #[repr(C)]
 pub struct Failed {
+    refusal: u64,
+    record: Record,
+}
+
+#[repr(C)]
+pub struct Swapped {
     refusal: u64,
     record: Record,
 }
@@ -255,6 +262,20 @@ pub unsafe extern "C" fn twin_draw_plan(
         Some(length) => Drawn { refusal: 0, length: length as u64 },
         None => Drawn { refusal: 5, length: 0 },
     }
+}
+
+/// # Safety
+/// `image` leads to `image_length` bytes that nothing else touches.
+#[no_mangle]
+pub unsafe extern "C" fn twin_swap(
+    y: Layout,
+    r: Record,
+    image: *mut u8,
+    image_length: usize,
+    target: u64,
+) -> Swapped {
+    let record = swap::take_back(y, &r, from_raw_parts_mut(image, image_length), target);
+    Swapped { refusal: 0, record }
 }
 
 /// # Safety
