@@ -1,4 +1,4 @@
-/* A kiosk's morning and afternoon, called from C. The Rust program in ../rust tells the same story in the same words. */
+/* A kiosk's morning and afternoon, called from C. The Rust program in ../rust tells the same in the same words. */
 #include "splicebell.h"
 
 #include <inttypes.h>

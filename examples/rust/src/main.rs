@@ -1,4 +1,4 @@
-//! A kiosk's morning and afternoon, called from Rust. The C program in ../c tells the same story in the same words.
+//! A kiosk's morning and afternoon, called from Rust. The C program in ../c tells the same in the same words.
 use splicebell::{Layout, ListRefusal, Panel, Pool, Result};
 
 /// Two data units, one parity unit and one spare a group, over five drives; units of eight bytes.
