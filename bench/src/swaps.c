@@ -95,8 +95,8 @@ static void compare(const struct pool *p, uint64_t failed, uint64_t back)
     free(routes.units);
 }
 
-/* Before targets fail every content must stand at its own place. So the file is written anew after each new drive, since
- * that held other bytes. */
+/* Before targets fail every content must stand at its own place. So the file is written anew after each new drive,
+ * since that held other bytes. */
 static void compare_all(struct pool p)
 {
     const splicebell_record none = {0};
