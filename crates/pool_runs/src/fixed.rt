@@ -204,25 +204,51 @@ pub fn counts(i: u64, space: &mut [u8]) {
 
 // ---- swapped drives
 
-// Two drives die: too early to take one back. Then they are repaired: one that is alive, and one that there is not.
-fn not_yet(run: Run, image: &mut [u8], first: u64, second: u64) -> Run {
+// Two drives die: too early to take one back.
+fn too_early(run: Run, image: &mut [u8], first: u64, second: u64) -> Run {
     let one = fail(run, image, first);
     let two = fail(one, image, second);
-    let early = swap(two, image, first);
-    let mended = repair(early, image);
+    swap(two, image, first)
+}
+
+fn repaired_then(run: Run, image: &mut [u8], first: u64, second: u64) -> Run {
+    let early = too_early(run, image, first, second);
+    repair(early, image)
+}
+
+// A drive that is alive, and one that there is not.
+fn not_listed(run: Run, image: &mut [u8]) -> Run {
     let alive = layout::find_place(run.y, 0, 2);
-    let dud = swap(mended, image, alive.target);
+    let dud = swap(run, image, alive.target);
     swap(dud, image, 5)
+}
+
+fn not_yet(run: Run, image: &mut [u8], first: u64, second: u64) -> Run {
+    let mended = repaired_then(run, image, first, second);
+    not_listed(mended, image)
+}
+
+fn look_at_all(run: Run, image: &[u8], buffer: &mut [u8]) {
+    look(run, image, buffer, 0, 0);
+    look(run, image, buffer, 0, 1);
+    look(run, image, buffer, 0, 2);
+}
+
+fn first_back(run: Run, image: &mut [u8], buffer: &mut [u8], first: u64) -> Run {
+    let one = swap(run, image, first);
+    look_at_all(one, image, buffer);
+    one
+}
+
+fn second_back(run: Run, image: &mut [u8], first: u64, second: u64) -> Run {
+    let again = swap(run, image, first);
+    swap(again, image, second)
 }
 
 // The one that died first comes back, and then the other.
 fn coming_back(run: Run, image: &mut [u8], buffer: &mut [u8], first: u64, second: u64) {
-    let one = swap(run, image, first);
-    look(one, image, buffer, 0, 0);
-    look(one, image, buffer, 0, 1);
-    look(one, image, buffer, 0, 2);
-    let again = swap(one, image, first);
-    let whole = swap(again, image, second);
+    let one = first_back(run, image, buffer, first);
+    let whole = second_back(one, image, first, second);
     panel(whole, image);
     read(whole, image, buffer, 0, 3);
 }

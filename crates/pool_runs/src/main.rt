@@ -142,30 +142,53 @@ fn swap(run: Run, image: &mut [u8], seed: &mut u64) -> Run {
     after
 }
 
-// Kiosks write, drives die, and one is taken for swapped too early.
-fn spring(run: Run, image: &mut [u8], buffer: &mut [u8], seed: &mut u64) -> Run {
+fn stored(run: Run, image: &mut [u8], buffer: &mut [u8], seed: &mut u64) {
     write_event(run, image, buffer, seed);
     calls::pool(run, image);
+}
+
+fn lose_two(run: Run, image: &[u8], seed: &mut u64) -> Run {
     let one = lose(run, image, seed);
-    let two = lose(one, image, seed);
+    lose(one, image, seed)
+}
+
+// Kiosks write, drives die, and one is taken for swapped too early.
+fn spring(run: Run, image: &mut [u8], buffer: &mut [u8], seed: &mut u64) -> Run {
+    stored(run, image, buffer, seed);
+    let two = lose_two(run, image, seed);
     swap(two, image, seed)
 }
 
-// The row is repaired, a dead drive gets other bytes, and drives are swapped.
-fn autumn(run: Run, image: &mut [u8], seed: &mut u64) -> Run {
+// The row is repaired, and a dead drive gets other bytes.
+fn summer(run: Run, image: &mut [u8], seed: &mut u64) -> Run {
     let mended = calls::repair(run, image);
     calls::pool(mended, image);
     scribble_event(mended, image, seed);
     calls::pool(mended, image);
-    let back = swap(mended, image, seed);
+    mended
+}
+
+fn swap_and_show(run: Run, image: &mut [u8], seed: &mut u64) -> Run {
+    let back = swap(run, image, seed);
     calls::panel(back.y, back.rec, image);
     calls::pool(back, image);
+    back
+}
+
+// Drives are swapped.
+fn autumn(run: Run, image: &mut [u8], seed: &mut u64) -> Run {
+    let back = swap_and_show(run, image, seed);
     swap(back, image, seed)
+}
+
+fn rest_of_year(run: Run, image: &mut [u8], seed: &mut u64) -> Run {
+    let mended = summer(run, image, seed);
+    autumn(mended, image, seed)
 }
 
 fn year(run: Run, image: &mut [u8], buffer: &mut [u8], seed: &mut u64) -> Run {
     let dead = spring(run, image, buffer, seed);
-    autumn(dead, image, seed)
+    rest_of_year(dead, image, seed)
 }
 
 fn write_all(run: Run, image: &mut [u8], buffer: &mut [u8], seed: &mut u64) {
@@ -175,11 +198,14 @@ fn write_all(run: Run, image: &mut [u8], buffer: &mut [u8], seed: &mut u64) {
     calls::pool(run, image);
 }
 
-fn years(run: Run, image: &mut [u8], buffer: &mut [u8], seed: &mut u64) -> Run {
+fn two_years(run: Run, image: &mut [u8], buffer: &mut [u8], seed: &mut u64) -> Run {
     let one = year(run, image, buffer, seed);
-    let two = year(one, image, buffer, seed);
-    let three = year(two, image, buffer, seed);
-    year(three, image, buffer, seed)
+    year(one, image, buffer, seed)
+}
+
+fn years(run: Run, image: &mut [u8], buffer: &mut [u8], seed: &mut u64) -> Run {
+    let two = two_years(run, image, buffer, seed);
+    two_years(two, image, buffer, seed)
 }
 
 fn years_run(i: u64, space: &mut [u8], buffer: &mut [u8], seed: &mut u64) {
