@@ -76,16 +76,10 @@ module _ (from to : List ℕ) where
 
     -- ---- taken up, and put down
 
+    pub room-fits : (rooms : Rooms) → RoomsAre from to m rooms → (c : ℕ) → c < m → getD (rooms .moves) c false ≡ true → getD (rooms .at) c 0 + len ≤ 12288
+    room-fits rooms are c hc t = omega (arith, are .at-are c hc, room-in c hc (sym (are .moves-are c hc) ∙ t))
+
     module _ (rooms : Rooms) (are : RoomsAre from to m rooms) (img scratch₀ scratch img′ : List ℕ) (len-is : length img ≡ size) (lent : length scratch₀ ≡ 12288) where
-      pub room-lent : (c : ℕ) → c < m → getD (rooms .moves) c false ≡ true → getD (rooms .at) c 0 + len ≤ length scratch₀
-      room-lent c hc t = omega (arith, are .at-are c hc, room-in c hc (sym (are .moves-are c hc) ∙ t), lent)
-
-      pub room-there : scratch ≡ unitsCopied (rooms .moves) from (rooms .at) len img m scratch₀ → (c : ℕ) → c < m → getD (rooms .moves) c false ≡ true
-          → getD (rooms .at) c 0 + len ≤ length scratch
-      room-there up c hc t =
-          let same : length scratch ≡ length scratch₀ = ap length up ∙ copied-length (rooms .moves) from (rooms .at) len img scratch₀ m in
-          omega (arith, room-lent c hc t, same)
-
       -- every unit that moves is in its room
       in-room : scratch ≡ unitsCopied (rooms .moves) from (rooms .at) len img m scratch₀ → (c : ℕ) → c < m → startMoves from to c ≡ true → (o : ℕ) → o < len
           → runOf scratch (getD (rooms .at) c 0) o ≡ runOf img (getD from c 0) o

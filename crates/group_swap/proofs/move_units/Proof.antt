@@ -1,8 +1,8 @@
 -- `group_swap::move_units`. What moves is taken up into the scratch, and put down from there.
-use mathlib.Core.Path.{refl}
-use mathlib.Core.List.{[]}
+use mathlib.Core.Path.{_≡_, refl}
 use native.Mathlib.Omega.{arith}
-use Rattle.group_swap.specs.TakenLaws.{room-lent, room-there, units-moved}
+use lib.ListN.{length}
+use Rattle.group_swap.specs.TakenLaws.{room-fits, units-moved}
 use borrow.Author.Needs.{needs}
 use Rattle.group_swap.proofs.move_units.Statement.{statement}
 use Rattle.group_swap.proofs.move_units.Tie as tie
@@ -13,12 +13,13 @@ rooms-of-requires c κs = search needs
 copy-units-requires : tie.Need-copy-units-requires
 copy-units-requires c κs =
     let p = c .before .before .before .before .before .before .before .pre in
-    (p .0 .few-contents, λ i h t. (omega (arith, p .0 .from-in i h, p .0 .to-in i h), room-lent _ _ _ _ _ (p .0) _ (c .before .before .before .before .rooms-of .ensures) (c .before .before .before .before .before .before .before .args .image .now) (c .before .before .before .before .before .before .before .args .scratch .now) [] [] refl (p .1) i h t))
+    (p .0 .few-contents, λ i h t. (omega (arith, p .0 .from-in i h, p .0 .to-in i h), omega (arith, room-fits _ _ _ _ _ (p .0) _ (c .before .before .before .before .rooms-of .ensures) i h t, p .1)))
 
 copy-units-requires-2 : tie.Need-copy-units-requires-2
 copy-units-requires-2 c κs =
     let p = c .before .before .before .before .before .before .before .before .before .before .before .before .pre in
-    (p .0 .few-contents, λ i h t. (room-there _ _ _ _ _ (p .0) _ (c .before .before .before .before .before .before .before .before .before .rooms-of .ensures) _ _ _ [] refl (p .1) (c .before .before .before .before .copy-units .ensures) i h t, p .0 .to-in i h))
+    let up : length (c .before .before .before .before .copy-units .last .1 .1 .1 .1 .1 .1 .0) ≡ 12288 = search needs in
+    (p .0 .few-contents, λ i h t. (omega (arith, room-fits _ _ _ _ _ (p .0) _ (c .before .before .before .before .before .before .before .before .before .rooms-of .ensures) i h t, up), omega (arith, p .0 .from-in i h, p .0 .to-in i h)))
 
 same-length : tie.Need-same-length
 same-length c = search needs
