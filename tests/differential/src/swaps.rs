@@ -26,7 +26,7 @@ use oracle::pool_swap;
 const LONGEST_YEARS: usize = 1 << 12;
 /// One in so many states is one in which drives may wait for repair.
 const UNREPAIRED: u64 = 4;
-/// One in so many new drives is of zeros.
+/// One time in so many new drives are of zeros.
 const BLANK: u64 = 4;
 /// In rows over the years, one in so many swaps is tried while drives wait for repair.
 const TOO_EARLY: u64 = 4;
@@ -90,7 +90,7 @@ fn state(draws: &mut Draws, start: &Pool) -> Pool {
     pool
 }
 
-/// Before one in so many swaps the failed drives are of zeros.
+/// New drives in the place of failed ones, sometimes of zeros.
 fn put_in(draws: &mut Draws, pool: &mut Pool) {
     if !draws.one_in(BLANK) {
         return;
@@ -203,8 +203,8 @@ fn spoil_record(draws: &mut Draws, pool: &mut Pool) {
     }
 }
 
-/// A swap in a pool with more groups than 16 bits tell apart, in each edition. Such pools are too large for most rounds, so some rounds are
-/// theirs alone.
+/// A swap in a pool with more groups than 16 bits tell apart, in each edition. Such pools are too large for most rounds, so
+/// some rounds are theirs alone.
 pub fn wide_round(bench: &mut Bench) {
     let mut pool = wide(&mut bench.draws);
     for edition in 1..=2 {
