@@ -186,9 +186,11 @@ pub fn shift_of(y: Layout, s: Shape, r: Record, other: Record, to: &[u8; 64], g:
     let new_list = other.failed;
     let old = homes::homes_of(targets, m, spares, old_list, r.k as usize);
     let new = homes::homes_of(targets, m, spares, new_list, other.k as usize);
+    let before = home_starts(starts, old, m);
+    let after = home_starts(starts, new, m);
     Shift {
-        from: home_starts(starts, old, m),
-        to: home_starts(starts, new, m),
+        from: before,
+        to: after,
     }
 }
 
