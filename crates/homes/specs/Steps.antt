@@ -18,7 +18,7 @@ use Rattle.homes.specs.Listed.{listed}
 use Rattle.homes.specs.Homes.{free, move, homes}
 use Rattle.homes.specs.HomesLaws.{homes-apart}
 use Rattle.homes.specs.Records.{entry, entryGood, recordGood, failuresRefusal, recordRefusal}
-use Rattle.homes.specs.Dropping.{placeIn, skip, entryWithout}
+use Rattle.homes.specs.Dropping.{listPlace, skip, entryWithout}
 use Rattle.homes.specs.Standing.{Units, Standing, HomesAre}
 use Rattle.homes.specs.StandingLaws.{move-cong}
 
@@ -135,7 +135,7 @@ module _ (e : ℕ → ℕ) (last place i : ℕ) where
   pub after-moved : i < last → place ≤ i → e (i + 1) ≡ pick (ltb i last) (e (skip place i)) (pick (eqb i last) 0 (e i))
   after-moved h l = ap e (add-one i) ∙ sym (simp (lt-ltb i last h, le-ltb i place l))
 
-pub entry-is : (R : Record) (d place i x : ℕ) → place ≡ placeIn R d
+pub entry-is : (R : Record) (d place i x : ℕ) → place ≡ listPlace R d
     → x ≡ pick (ltb i (R .k - 1)) (entry R (skip place i)) (pick (eqb i (R .k - 1)) 0 (entry R i)) → x ≡ entryWithout R d i
 unfolding entryWithout
 entry-is R d place i x e h = h ∙ ap (λ (p : ℕ). pick (ltb i (R .k - 1)) (entry R (skip p i)) (pick (eqb i (R .k - 1)) 0 (entry R i))) e

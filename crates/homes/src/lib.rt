@@ -8,6 +8,7 @@ ghost use Rattle.lists.specs.Search.{all, lowest};
 ghost use Rattle.lists.specs.Tabulate.{at};
 ghost use Rattle.numbers.specs.Layouts.{Valid, allContents};
 ghost use Rattle.homes.specs.Listed.{listed};
+ghost use Rattle.homes.specs.Once.{placeIn};
 ghost use Rattle.homes.specs.Homes.{free, move};
 ghost use Rattle.homes.specs.Records.{entryGood, failuresRefusal, recordRefusal};
 ghost use Rattle.homes.specs.Dropping.{skip, without};
@@ -89,7 +90,7 @@ pub fn record_refusal(y: Layout, r: Record, contents: u64) -> u64
 // The place of target t among the first k entries; k where it is not there.
 fn place_of(failed: [u64; 3], k: usize, t: u64) -> usize
     requires { ⌜ k ≤ 3 ⌝ }
-    ensures { λ r. ⌜ r ≡ lowest (λ i. eqb (at failed i) t) k ⌝ }
+    ensures { λ r. ⌜ r ≡ placeIn (at failed) k t ⌝ }
 {
     let mut i: usize = 0;
     while i < k {

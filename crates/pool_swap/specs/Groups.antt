@@ -31,8 +31,8 @@ use Rattle.swapping.specs.Swapping.{swappedImage, homeMoves}
 use Rattle.swapping.specs.SwapLaws.{SwapAsked, less-few, few-move, moves-enough}
 
 -- the contents of the groups below g have moved
-unfoldable pub movedBelow : Layout → Record → ℕ → List ℕ → ℕ → List ℕ
-movedBelow y R d img g = storedBelow y (without R d) (R .q - 1) (λ g o c. homeMoves y R d g c) (stored y R img) img g
+unfoldable pub swappedBelow : Layout → Record → ℕ → List ℕ → ℕ → List ℕ
+swappedBelow y R d img g = storedBelow y (without R d) (R .q - 1) (λ g o c. homeMoves y R d g c) (stored y R img) img g
 
 module _ (y : Layout) (R : Record) (d : ℕ) (img₀ : List ℕ) (a : SwapAsked y R (length img₀) d) where
   abbrev v : Valid y
@@ -50,18 +50,18 @@ module _ (y : Layout) (R : Record) (d : ℕ) (img₀ : List ℕ) (a : SwapAsked 
   old-le : R .q ≤ y .k
   old-le = omega (arith, a .sound .good .few, a .sound .good .mended)
 
-  pub moved-begin : img₀ ≡ movedBelow y R d img₀ 0
-  unfolding movedBelow
-  moved-begin = below-begin y v S j le (λ g o c. homeMoves y R d g c) (stored y R img₀) img₀ (a .sound .len-is)
+  pub swapped-begin : img₀ ≡ swappedBelow y R d img₀ 0
+  unfolding swappedBelow
+  swapped-begin = below-begin y v S j le (λ g o c. homeMoves y R d g c) (stored y R img₀) img₀ (a .sound .len-is)
 
-  pub moved-end : (g : ℕ) (img : List ℕ) → img ≡ movedBelow y R d img₀ g → g ≡ allGroups y → img ≡ swappedImage y R d img₀
-  unfolding movedBelow
-  moved-end g img i e =
+  pub swapped-end : (g : ℕ) (img : List ℕ) → img ≡ swappedBelow y R d img₀ g → g ≡ allGroups y → img ≡ swappedImage y R d img₀
+  unfolding swappedBelow
+  swapped-end g img i e =
       i ∙ below-end y v S j le (λ g o c. homeMoves y R d g c) (stored y R img₀) img₀ (a .sound .len-is) g e ∙ moves-enough y R d img₀ a
 
-  pub moved-length : (g : ℕ) → length (movedBelow y R d img₀ g) ≡ length img₀
-  unfolding movedBelow
-  moved-length g = storing-length y S j _ _ img₀
+  pub swapped-length : (g : ℕ) → length (swappedBelow y R d img₀ g) ≡ length img₀
+  unfolding swappedBelow
+  swapped-length g = storing-length y S j _ _ img₀
 
   -- ---- group g, whose contents begin as the two lists say
 
@@ -103,16 +103,16 @@ module _ (y : Layout) (R : Record) (d : ℕ) (img₀ : List ℕ) (a : SwapAsked 
     homes-apart c e o z hc he ho hz q = let p = placed y v S j le in sym (p .own-at g c o hg hc ho) ∙ ap (contentHere y S j) q ∙ p .own-at g e z hg he hz
 
     -- what stands at a content's old home while its group is not done
-    old-byte : (img : List ℕ) → img ≡ movedBelow y R d img₀ g → (c o : ℕ) → c < contents y → o < y .u → runOf img (getD (x .from) c 0) o ≡ stored y R img₀ g o c
-    unfolding movedBelow runOf stored
+    old-byte : (img : List ℕ) → img ≡ swappedBelow y R d img₀ g → (c o : ℕ) → c < contents y → o < y .u → runOf img (getD (x .from) c 0) o ≡ stored y R img₀ g o c
+    unfolding swappedBelow runOf stored
     old-byte img i c o hc ho =
         (λ t. getD (i t) (getD (x .from) c 0 + o) 0)
-        ∙ ap (λ (b : ℕ). getD (movedBelow y R d img₀ g) b 0) (ap (λ (b : ℕ). b + o) (from-are c hc) ∙ spot-plus y g (home y R (R .q) g c) o)
+        ∙ ap (λ (b : ℕ). getD (swappedBelow y R d img₀ g) b 0) (ap (λ (b : ℕ). b + o) (from-are c hc) ∙ spot-plus y g (home y R (R .q) g c) o)
         ∙ below-yet y v S j le (λ g o c. homeMoves y R d g c) (stored y R img₀) img₀ (a .sound .len-is) g g (home y R (R .q) g c) o (omega arith) hg
         (home-lt y v R g (R .q) old-le c hc) ho
 
     -- the group is laid on as the shorter list says
-    group-lays : (img img′ : List ℕ) → img ≡ movedBelow y R d img₀ g → img′ ≡ unitsMoved (x .from) (x .to) (y .u) (contents y) img
+    group-lays : (img img′ : List ℕ) → img ≡ swappedBelow y R d img₀ g → img′ ≡ unitsMoved (x .from) (x .to) (y .u) (contents y) img
         → Lays (contents y) (y .u) (startOf y S j g) (λ c o. homeMoves y R d g c) (λ c o. stored y R img₀ g o c) img img′
     unfolding unitsMoved
     group-lays img img′ i e =
@@ -123,10 +123,10 @@ module _ (y : Layout) (R : Record) (d : ℕ) (img₀ : List ℕ) (a : SwapAsked 
         (λ c. runOf img (getD (x .from) c 0)) img (contents y) starts-tell to-are (λ c hc t. inside c hc) (λ c hc t o ho. old-byte img i c o hc ho))
       where
         inside : (c : ℕ) → c < contents y → startOf y S j g c + y .u ≤ length img
-        inside c hc = omega (arith, placed y v S j le .inside g c hg hc, ap length i ∙ moved-length g, a .sound .len-is)
+        inside c hc = omega (arith, placed y v S j le .inside g c hg hc, ap length i ∙ swapped-length g, a .sound .len-is)
 
-    pub moved-turn : (img img′ : List ℕ) → img ≡ movedBelow y R d img₀ g → img′ ≡ unitsMoved (x .from) (x .to) (y .u) (contents y) img → img′ ≡ movedBelow y R d img₀ (g + 1)
-    unfolding movedBelow
-    moved-turn img img′ i e =
+    pub swapped-turn : (img img′ : List ℕ) → img ≡ swappedBelow y R d img₀ g → img′ ≡ unitsMoved (x .from) (x .to) (y .u) (contents y) img → img′ ≡ swappedBelow y R d img₀ (g + 1)
+    unfolding swappedBelow
+    swapped-turn img img′ i e =
         below-turn y v S j le (λ g o c. homeMoves y R d g c) (stored y R img₀) img₀ (a .sound .len-is) g hg img′
         (subst (λ (l : List ℕ). Lays (contents y) (y .u) (startOf y S j g) (λ c o. homeMoves y R d g c) (λ c o. stored y R img₀ g o c) l img′) i (group-lays img img′ i e))

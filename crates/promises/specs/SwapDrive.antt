@@ -17,7 +17,7 @@ use Rattle.place.specs.Bytes.{spot, targetHere, unitHere}
 use Rattle.homes.specs.declared.Record.{Record}
 use Rattle.homes.specs.Listed.{listed}
 use Rattle.homes.specs.Records.{entry, failed}
-use Rattle.homes.specs.Dropping.{placeIn, entryWithout, without}
+use Rattle.homes.specs.Dropping.{listPlace, entryWithout, without}
 use Rattle.homes.specs.DroppingLaws as D
 use Rattle.homes.specs.Missing.{home, missing}
 use Rattle.homes.specs.MissingLaws.{home-own}
@@ -56,7 +56,7 @@ pub record Shorter (R : Record) (d : ℕ) (R′ : Record) : Type 0 where
   pub behind : (i : ℕ) → place ≤ i → i < R′ .k → entry R′ i ≡ entry R (suc i)
   pub freed : entry R′ (R′ .k) ≡ 0
   pub beyond : (i : ℕ) → R .k ≤ i → i < 3 → entry R′ i ≡ entry R i
-  pub count : R′ .waiting ≡ R .waiting
+  pub count-stays : R′ .waiting ≡ R .waiting
 
 -- a test that cannot be off is on
 still : (a b : Bool) → b ≡ true → (a ≡ false → b ≡ false) → a ≡ true
@@ -116,13 +116,13 @@ module _ (y : Layout) (R : Record) (img : List ℕ) (target n : ℕ) (R′ : Rec
         let lt = D.place-lt R target few (asked .is-failed) in
         record {
           one-lower = (omega (arith, lt), omega (arith, lt, asked .repaired));
-          place = placeIn R target;
+          place = listPlace R target;
           stood-there = (lt, D.place-holds R target few (asked .is-failed));
-          ahead = λ i h. D.entry-without R target few (asked .is-failed) i (omega (arith, lt)) ∙ ap (entry R) (D.skip-low (placeIn R target) i h);
-          behind = λ i l h. D.entry-without R target few (asked .is-failed) i h ∙ ap (entry R) (D.skip-high (placeIn R target) i l);
+          ahead = λ i h. D.entry-without R target few (asked .is-failed) i (omega (arith, lt)) ∙ ap (entry R) (D.skip-low (listPlace R target) i h);
+          behind = λ i l h. D.entry-without R target few (asked .is-failed) i h ∙ ap (entry R) (D.skip-high (listPlace R target) i l);
           freed = D.entry-freed R target few (asked .is-failed);
           beyond = D.entry-beyond R target few (asked .is-failed);
-          count = refl;
+          count-stays = refl;
         }
 
     -- "Target d .. leaves the failure list, the others in order"
@@ -139,7 +139,7 @@ module _ (y : Layout) (R : Record) (img : List ℕ) (target n : ℕ) (R′ : Rec
         ∙ same-truth (failed (without R target) t) (failed R t) still-listed was-listed
       where
         was-listed : failed R t ≡ true → failed (without R target) t ≡ true
-        was-listed h = still (failed (without R target) t) (failed R t) h (D.others-stay R target few (asked .is-failed) t ne)
+        was-listed h = still (failed (without R target) t) (failed R t) h (D.others-alive R target few (asked .is-failed) t ne)
 
         still-listed : failed (without R target) t ≡ true → failed R t ≡ true
         still-listed h = still (failed R t) (failed (without R target) t) h (D.alive-stays R target few (asked .is-failed) t)
@@ -160,6 +160,10 @@ module _ (y : Layout) (R : Record) (img : List ℕ) (target n : ℕ) (R′ : Rec
     -- ".. on d and on unused spares too": a new home is on the target, or it is a spare of its group,
     pub swap-where : (x : ℕ) → NewHome y R target x → (targetHere y x ≡ target) ⊎ (contents y ≤ unitHere y x .unit)
     swap-where = S.new-home-where y R target img asked
+
+    -- on the target alone where no other is in the list,
+    pub swap-where-alone : R .k ≡ 1 → (x : ℕ) → NewHome y R target x → targetHere y x ≡ target
+    swap-where-alone = S.new-home-alone y R target img asked
 
     -- and no byte of a target that is still failed changes
     pub swap-leaves-failed : (x : ℕ) → x < length img → failed R′ (targetHere y x) ≡ true → at img′ x ≡ at img x

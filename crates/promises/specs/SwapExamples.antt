@@ -61,7 +61,7 @@ homesUnder R = homeOf 0 ∷ homeOf 1 ∷ homeOf 2 ∷ []
     homeOf : ℕ → ℕ
     homeOf c = homes (λ u. u) 3 2 (at (R .failed)) (R .k) c
 
-pub list-examples :
+pub shorter-list-examples :
     -- the freed entry is 0, what stands after it stays; of three the middle one is taken back
     (without (two 3 0) 3 ≡ record { failed = 0 ∷ 0 ∷ 7 ∷ []; k = 1; q = 1; waiting = 0 })
     × (without (record { failed = 5 ∷ 6 ∷ 7 ∷ []; k = 3; q = 3; waiting = 0 }) 6 ≡ record { failed = 5 ∷ 7 ∷ 0 ∷ []; k = 2; q = 2; waiting = 0 })
@@ -72,4 +72,4 @@ pub list-examples :
     × (homesUnder (two 0 1) ≡ 3 ∷ 4 ∷ 2 ∷ [])
     × (homesUnder (without (two 0 1) 0) ≡ 0 ∷ 3 ∷ 2 ∷ [])
 unfolding tabulate any lowest listed free move homes entryWithout
-list-examples = (refl, refl, refl, refl, refl, refl)
+shorter-list-examples = (refl, refl, refl, refl, refl, refl)

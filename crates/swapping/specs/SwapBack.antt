@@ -21,7 +21,7 @@ use Rattle.homes.specs.declared.Record.{Record}
 use Rattle.homes.specs.Listed.{unlisted}
 use Rattle.homes.specs.HomesLaws.{homes-same}
 use Rattle.homes.specs.Records.{entry, failed, Good}
-use Rattle.homes.specs.Dropping.{placeIn, skip, without}
+use Rattle.homes.specs.Dropping.{listPlace, skip, without}
 use Rattle.homes.specs.DroppingLaws.{skip-low, entry-without, without-good}
 use Rattle.homes.specs.Missing.{targetAt, home}
 use Rattle.homes.specs.MissingLaws.{repaired-present}
@@ -109,7 +109,7 @@ module _ (y : Layout) (R : Record) (d : ℕ) (img : List ℕ) (kept : Kept y R) 
       }
 
   -- d is the last entry: so the list is as before
-  last : placeIn whole d ≡ R .k
+  last : listPlace whole d ≡ R .k
   last =
       lowest-at (λ i. eqb (entry whole i) d) (suc (R .k)) (R .k) (le-refl (suc (R .k)))
       (eq-eqb (entry whole (R .k)) d (getD-set-same (R .failed) (R .k) d 0 (omega (arith, kept .room, asked .room, asked .sound .valid .few-parity))))

@@ -23,9 +23,9 @@ use Rattle.homes.specs.Homes.{homes}
 use Rattle.homes.specs.HomesLaws.{own-or-spare, homes-stay, on-listed}
 use Rattle.homes.specs.Records.{entry, failed, Good}
 use Rattle.homes.specs.Dropping.{without}
-use Rattle.homes.specs.DroppingLaws.{without-good, without-shorter, alive-stays, others-stay}
+use Rattle.homes.specs.DroppingLaws.{without-good, without-shorter, alive-stays, others-alive}
 use Rattle.homes.specs.Missing.{targetAt, home, missing}
-use Rattle.homes.specs.MissingLaws.{units-apart, home-lt, repaired-present}
+use Rattle.homes.specs.MissingLaws.{home-own, units-apart, home-lt, repaired-present}
 use Rattle.pool.specs.Contents.{stored}
 use Rattle.pool.specs.Refusals.{poolTests}
 use Rattle.pool.specs.Storing.{storing}
@@ -200,10 +200,20 @@ module _ (y : Layout) (R : Record) (d : ℕ) (img : List ℕ) where
       clash (homeMoves y R d (w .g) (w .c)) (w .is-on)
       (own-stays y R d a (w .g) (w .c)
       (ap (λ (u : ℕ). failed R (targetAt y (w .g) u)) (sym own)
-      ∙ others-stay R d (few-entries y R d a) (a .is-failed) (targetAt y (w .g) h) ne (alive a (w .g) (w .c) (w .c-lt)))))))
+      ∙ others-alive R d (few-entries y R d a) (a .is-failed) (targetAt y (w .g) h) ne (alive a (w .g) (w .c) (w .c-lt)))))))
       (λ (spare : contents y ≤ h).
       inr (subst (λ (u : ℕ). contents y ≤ u) (sym (ap (λ (p : ℕ). unitHere y p .unit) (w .is-at) ∙ unit-there′ y v (w .g) h (w .o) (w .g-lt) lt (w .o-lt))) spare))
       (own-or-spare (targetAt y (w .g)) (contents y) (y .k) (entry (without R d)) (R .q - 1) (w .c))
+
+  -- where d is the only one in the list every content comes back to its own unit, so a new home is on d
+  pub new-home-alone : (a : SwapAsked y R (length img) d) → R .k ≡ 1 → (x : ℕ) → NewHome y R d x → targetHere y x ≡ d
+  new-home-alone a one x w =
+      let v = a .sound .valid in
+      let h : ℕ = home y (without R d) (R .q - 1) (w .g) (w .c) in
+      let own : h ≡ w .c = home-own y (without R d) (w .g) (R .q - 1) (w .c) (omega (arith, a .repaired, one)) in
+      let lt = home-lt y v (without R d) (w .g) (R .q - 1) (less-few y R d a) (w .c) (w .c-lt) in
+      let here : unitHere y x .unit ≡ h = ap (λ (p : ℕ). unitHere y p .unit) (w .is-at) ∙ unit-there′ y v (w .g) h (w .o) (w .g-lt) lt (w .o-lt) in
+      ⊎-elim (λ e. e) (λ (spare : contents y ≤ unitHere y x .unit). absurd (omega (arith, spare, here, own, w .c-lt))) (new-home-where a x w)
 
   -- and none on a target that stays in the list
   pub swap-spares-failed : (x : ℕ) → x < length img → failed (without R d) (targetHere y x) ≡ true → at (swapImage y R img d) x ≡ at img x

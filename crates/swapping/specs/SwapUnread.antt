@@ -12,7 +12,7 @@ use Rattle.numbers.specs.declared.Layout.{Layout}
 use Rattle.homes.specs.declared.Record.{Record}
 use Rattle.homes.specs.Listed.{listed, listed-same}
 use Rattle.homes.specs.Records.{entry, failed}
-use Rattle.homes.specs.Dropping.{placeIn, skip, without}
+use Rattle.homes.specs.Dropping.{listPlace, skip, without}
 use Rattle.homes.specs.DroppingLaws.{entry-without, skip-few}
 use Rattle.pool.specs.Unread.{Alike, grant-same, alike-after, homes-unread, stored-unread, storing-unread, own-unread}
 use Rattle.swapping.specs.Swapping.{swapRefusal, swapImage, swapRecord}
@@ -22,7 +22,7 @@ module _ (y : Layout) (R R′ : Record) (alike : Alike R R′) (d : ℕ) where
   listed-unread : failed R d ≡ failed R′ d
   listed-unread = listed-same (entry R) (entry R′) (R .k) d (alike .same-entries) ∙ ap (λ (k : ℕ). listed (entry R′) k d) (alike .same-k)
 
-  place-unread : placeIn R d ≡ placeIn R′ d
+  place-unread : listPlace R d ≡ listPlace R′ d
   place-unread =
       lowest-same (λ i. eqb (entry R i) d) (λ i. eqb (entry R′ i) d) (R .k) (λ i b. ap (λ (t : ℕ). eqb t d) (alike .same-entries i b))
       ∙ ap (lowest (λ i. eqb (entry R′ i) d)) (alike .same-k)
@@ -42,7 +42,7 @@ module _ (y : Layout) (R R′ : Record) (alike : Alike R R′) (d : ℕ) where
           same-entries = λ i b.
               let b′ : i < R′ .k - 1 = omega (arith, b, alike .same-k) in
               entry-without R d room in-list i b
-              ∙ alike .same-entries (skip (placeIn R d) i) (skip-few (placeIn R d) i (R .k) b)
+              ∙ alike .same-entries (skip (listPlace R d) i) (skip-few (listPlace R d) i (R .k) b)
               ∙ ap (λ (p : ℕ). entry R′ (skip p i)) place-unread
               ∙ sym (entry-without R′ d (omega (arith, room, alike .same-k)) (sym listed-unread ∙ in-list) i b′);
         }

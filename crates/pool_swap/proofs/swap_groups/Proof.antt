@@ -8,12 +8,12 @@ use Rattle.numbers.specs.Layouts.{allGroups}
 use Rattle.place.specs.Places.{tilePermutation}
 use Rattle.homes.specs.Records.{Good}
 use Rattle.swapping.specs.SwapLaws.{few-entries, some-entry, less-good}
-use Rattle.pool_swap.specs.Groups.{movedBelow, moved-begin, moved-length, group-movable, moved-turn, moved-end}
+use Rattle.pool_swap.specs.Groups.{swappedBelow, swapped-begin, swapped-length, group-movable, swapped-turn, swapped-end}
 use Rattle.pool_swap.proofs.swap_groups.Statement.{statement}
 use Rattle.pool_swap.proofs.swap_groups.Tie as tie
 
 abbrev Inv-loop : tie.InvT-loop
-Inv-loop y r target image₀ less s groups m u scratch₀ tile₀ to₀ g₀ image scratch tile to g = (g ≤ allGroups y) × (length image ≡ length image₀) × (length scratch ≡ 12288) × (to ≡ tilePermutation y tile) × (image ≡ movedBelow y r target image₀ g)
+Inv-loop y r target image₀ less s groups m u scratch₀ tile₀ to₀ g₀ image scratch tile to g = (g ≤ allGroups y) × (length image ≡ length image₀) × (length scratch ≡ 12288) × (to ≡ tilePermutation y tile) × (image ≡ swappedBelow y r target image₀ g)
 
 abbrev μ-loop : tie.MeasureT-loop
 μ-loop y r target image₀ less s groups m u scratch₀ tile₀ to₀ g₀ image scratch tile to g = allGroups y - g
@@ -37,7 +37,7 @@ permutation-requires : tie.Need-permutation-requires Inv-loop μ-loop
 permutation-requires c κs = c .before .before .before .before .before .pre .sound .valid
 
 loop-holds : tie.Need-loop-holds Inv-loop μ-loop
-loop-holds c = (omega arith, refl, refl, c .permutation .ensures, moved-begin _ _ _ _ (c .before .before .before .before .before .before .pre))
+loop-holds c = (omega arith, refl, refl, c .permutation .ensures, swapped-begin _ _ _ _ (c .before .before .before .before .before .before .pre))
 
 -- a group, and few of them
 turn : (c : tie.In-loop Inv-loop μ-loop) → (c .before .loop .g < allGroups (c .before .before .before .before .before .before .before .before .args .y)) × (allGroups (c .before .before .before .before .before .before .before .before .args .y) ≤ 4194304)
@@ -75,14 +75,14 @@ loop-again : tie.Need-loop-again Inv-loop μ-loop
 loop-again c =
     let a = c .before .before .before .before .before .before .before .before .before .before .before .before .before .before .before .before .before .before .before .before .pre in
     let l = c .before .before .before .before .before .before .before .before .before .before .before .before .before .loop in
-    let e = moved-turn _ _ _ _ a _ (turn (c .before .before .before .before .before .before .before .before .before .before .before .before) .0) (c .before .before .before .before .before .before .before .before .shift-of .result) _ (c .before .before .before .before .before .before .before .before .before .before .before .before .before .before .before .before .before .before .without .ensures) (c .before .before .before .before .before .before .before .before .shift-of .ensures) (l .image) _ (l .inv .4) (c .before .before .before .move-units .ensures) in
-    (omega (arith, turn (c .before .before .before .before .before .before .before .before .before .before .before .before)), ap length e ∙ moved-length _ _ _ _ a _, search needs, c .before .before .before .before .before .before .before .before .before .before .tile-to .ensures, e)
+    let e = swapped-turn _ _ _ _ a _ (turn (c .before .before .before .before .before .before .before .before .before .before .before .before) .0) (c .before .before .before .before .before .before .before .before .shift-of .result) _ (c .before .before .before .before .before .before .before .before .before .before .before .before .before .before .before .before .before .before .without .ensures) (c .before .before .before .before .before .before .before .before .shift-of .ensures) (l .image) _ (l .inv .4) (c .before .before .before .move-units .ensures) in
+    (omega (arith, turn (c .before .before .before .before .before .before .before .before .before .before .before .before)), ap length e ∙ swapped-length _ _ _ _ a _, search needs, c .before .before .before .before .before .before .before .before .before .before .tile-to .ensures, e)
 
 same-length : tie.Need-same-length Inv-loop μ-loop
 same-length c = c .before .loop .inv .1
 
 returns : tie.Need-returns Inv-loop μ-loop
-returns c = (c .before .before .before .before .before .before .without .ensures, moved-end _ _ _ _ (c .before .before .before .before .before .before .before .before .pre) _ _ (c .before .loop .inv .4) (omega (arith, c .before .loop .inv .0, c .loop-test .left, c .before .before .before .before .numbers-of .ensures .groups-is)))
+returns c = (c .before .before .before .before .before .before .without .ensures, swapped-end _ _ _ _ (c .before .before .before .before .before .before .before .before .pre) _ _ (c .before .loop .inv .4) (omega (arith, c .before .loop .inv .0, c .loop-test .left, c .before .before .before .before .numbers-of .ensures .groups-is)))
 
 pub swap-groups-spec : {M : Type 1} → statement M
 swap-groups-spec =
