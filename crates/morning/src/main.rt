@@ -140,11 +140,20 @@ fn put_in(image: &mut [u8], target: u64, from: usize) {
     fill_drive(image, from, 85);
 }
 
-fn in_the_afternoon(r: Record, image: &mut [u8]) -> Record {
-    put_in(image, 2, 64);
+// One that there is not, and one that is alive.
+fn take_others_back(r: Record, image: &mut [u8]) -> Record {
     let none = take_back(r, image, 5);
-    let alive = take_back(none, image, 4);
-    let whole = take_back(alive, image, 2);
+    take_back(none, image, 4)
+}
+
+fn make_whole(r: Record, image: &mut [u8]) -> Record {
+    put_in(image, 2, 64);
+    let same = take_others_back(r, image);
+    take_back(same, image, 2)
+}
+
+fn in_the_afternoon(r: Record, image: &mut [u8]) -> Record {
+    let whole = make_whole(r, image);
     inspect(whole, image);
     text(b"The drives after the swap:\n");
     drives(image);
