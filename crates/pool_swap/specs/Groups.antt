@@ -125,7 +125,8 @@ module _ (y : Layout) (R : Record) (d : ℕ) (img₀ : List ℕ) (a : SwapAsked 
         inside : (c : ℕ) → c < contents y → startOf y S j g c + y .u ≤ length img
         inside c hc = omega (arith, placed y v S j le .inside g c hg hc, ap length i ∙ swapped-length g, a .sound .len-is)
 
-    pub swapped-turn : (img img′ : List ℕ) → img ≡ swappedBelow y R d img₀ g → img′ ≡ unitsMoved (x .from) (x .to) (y .u) (contents y) img → img′ ≡ swappedBelow y R d img₀ (g + 1)
+    pub swapped-turn : (img img′ : List ℕ) → img ≡ swappedBelow y R d img₀ g → img′ ≡ unitsMoved (x .from) (x .to) (y .u) (contents y) img
+        → img′ ≡ swappedBelow y R d img₀ (g + 1)
     unfolding swappedBelow
     swapped-turn img img′ i e =
         below-turn y v S j le (λ g o c. homeMoves y R d g c) (stored y R img₀) img₀ (a .sound .len-is) g hg img′

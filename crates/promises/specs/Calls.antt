@@ -205,6 +205,10 @@ calls-right-from y v s a es s′ p = subst⁻¹ (OutcomesRight y) (reaches-run y
 -- and so from zeros and an empty list
 
 module _ (y : Layout) (valid : Valid y) (room : List ℕ) (three : length room ≡ 3) (es : List Event) (s : State) (p : Reaches y (start y room) es s) where
+  -- the state holds its file under a good record with a true count
+  pub reached-inside : Inside y s
+  reached-inside = subst⁻¹ (Inside y) (reaches-run y es (start y room) s p) (ran y valid es (start y room) (started y valid room three))
+
   pub calls-right : OutcomesRight y s
   calls-right = calls-right-from y valid (start y room) (started y valid room three) es s p
 
@@ -213,5 +217,4 @@ module _ (y : Layout) (valid : Valid y) (room : List ℕ) (three : length room �
   file-of-calls = ap (λ (m : State). m .file) (reaches-run y es (start y room) s p) ∙ file-of-run y valid room three es
 
   pub file-length : length (s .file) ≡ capacity y
-  file-length =
-      ap (λ (m : State). length (m .file)) (reaches-run y es (start y room) s p) ∙ ran y valid es (start y room) (started y valid room three) .holds .file-length
+  file-length = reached-inside .holds .file-length

@@ -36,9 +36,9 @@ use Rattle.moving.specs.MoveLaws as M
 use Rattle.promises.specs.Tight.{same}
 use Rattle.promises.specs.Counts.{recounted}
 use Rattle.promises.specs.Runs.{Event, State, start, run, laidOn}
-use Rattle.promises.specs.RunLaws.{Inside, inside-sound, started, ran, laid}
+use Rattle.promises.specs.RunLaws.{Inside, inside-sound, laid}
 use Rattle.promises.specs.Demand3.{Right, right-from}
-use Rattle.promises.specs.Calls.{Reaches, OutcomesRight, reaches-run, calls-right-from}
+use Rattle.promises.specs.Calls.{Reaches, OutcomesRight, reached-inside, calls-right-from}
 
 -- ---- the call, of any outcome that its promise allows: `room` is the length of the new image, n the number answered
 
@@ -133,7 +133,7 @@ there-and-back y v img k entries entries′ room room′ e e′ n n′ new back 
 module _ (y : Layout) (valid : Valid y) (room : List ℕ) (three : length room ≡ 3) (es : List Event) (s : State) (reached : Reaches y (start y room) es s)
     (lent n : ℕ) (new : List ℕ) (p : Moves y (s .rec) (s .img) lent n new) (fits : lent ≡ imageLength y) (entries : List ℕ) (three′ : length entries ≡ 3) where
   inside : Inside y s
-  inside = subst⁻¹ (Inside y) (reaches-run y es (start y room) s reached) (ran y valid es (start y room) (started y valid room three))
+  inside = reached-inside y valid room three es s reached
 
   -- the move is accepted
   pub moved-accepted : n ≡ 0
@@ -170,7 +170,7 @@ module _ (y : Layout) (valid : Valid y) (room : List ℕ) (three : length room �
 module _ (y : Layout) (valid : Valid y) (room : List ℕ) (three : length room ≡ 3) (es : List Event) (s : State) (reached : Reaches y (start y room) es s)
     (unfailing : s .rec .k ≡ 0) (spares : (x : ℕ) → x < imageLength y → contents y ≤ unitHere y x .unit → at (s .img) x ≡ 0) where
   kept-right : Inside y s
-  kept-right = subst⁻¹ (Inside y) (reaches-run y es (start y room) s reached) (ran y valid es (start y room) (started y valid room three))
+  kept-right = reached-inside y valid room three es s reached
 
   empty-list : s .rec ≡ unfailed (s .rec .failed)
   empty-list =

@@ -44,8 +44,8 @@ use Rattle.promises.specs.Refusals.{poolTable}
 use Rattle.promises.specs.Tight.{same}
 use Rattle.promises.specs.Counts.{recounted, tests-same}
 use Rattle.promises.specs.Runs.{Event, fail, State, start, step}
-use Rattle.promises.specs.RunLaws.{Inside, inside-sound, started, stepped, ran}
-use Rattle.promises.specs.Calls.{Reaches, reaches-run}
+use Rattle.promises.specs.RunLaws.{Inside, inside-sound, stepped}
+use Rattle.promises.specs.Calls.{Reaches, reached-inside}
 
 -- R′ is R without target d, "the others in order"; "k and q are both one lower, the freed entry is 0", and the count stays what it is
 pub record Shorter (R : Record) (d : ℕ) (R′ : Record) : Type 0 where
@@ -179,7 +179,7 @@ swap-tight y R img target n n′ T T′ i i′ p q = (same (p .answer) (q .answe
 
 module _ (y : Layout) (valid : Valid y) (room : List ℕ) (three : length room ≡ 3) (es : List Event) (s : State) (reached : Reaches y (start y room) es s) where
   inside : Inside y s
-  inside = subst⁻¹ (Inside y) (reaches-run y es (start y room) s reached) (ran y valid es (start y room) (started y valid room three))
+  inside = reached-inside y valid room three es s reached
 
   -- ".. which on a pool that demand 3 can reach is what encoding afresh would put there": every content, since none is missing. "the new drive's bytes may be
   -- anything before the call": `img` is any image that differs from the pool's on failed drives alone

@@ -1,7 +1,7 @@
 //! What has been tried of editions so far: the calls that take a layout by its edition, and the editions that were refused.
 
 use crate::edition_kinds::{layout_takers, Given, BAD_EDITIONS, EDITIONS, LAYOUT_TAKERS};
-use crate::tally::unmet;
+use crate::tally::{add_kinds, unmet};
 
 pub struct EditionTally {
     /// How often each call that takes a layout was of each kind that all must meet.
@@ -17,12 +17,8 @@ impl EditionTally {
     /// A call was given a layout and answered. One that is none of [`layout_takers`] is not counted here.
     pub fn add(&mut self, call: &Given) {
         let Some(taker) = layout_takers().position(|name| name == call.call) else { return };
-        for ((_, is_met), count) in EDITIONS.iter().zip(&mut self.taken[taker]) {
-            *count += u64::from(is_met(call));
-        }
-        for ((_, is_met), count) in BAD_EDITIONS.iter().zip(&mut self.bad) {
-            *count += u64::from(is_met(call));
-        }
+        add_kinds(&EDITIONS, &mut self.taken[taker], |is_met| is_met(call));
+        add_kinds(&BAD_EDITIONS, &mut self.bad, |is_met| is_met(call));
     }
 
     pub fn print(&self) {

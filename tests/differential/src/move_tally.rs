@@ -3,7 +3,7 @@
 
 use crate::count_kinds::Counted;
 use crate::move_kinds::{Back, Moved, BACK_KINDS, LATER_KINDS, MOVE_KINDS, REFUSED_KINDS};
-use crate::tally::unmet;
+use crate::tally::{add_kinds, print_kinds, unmet};
 
 pub struct MoveTally {
     /// From edition 1, and from edition 2.
@@ -27,16 +27,12 @@ impl MoveTally {
             0 => (&MOVE_KINDS, &mut self.accepted[moved.pool.layout.edition as usize - 1]),
             _ => (&REFUSED_KINDS, &mut self.refused),
         };
-        for ((_, is_met), count) in kinds.iter().zip(counts) {
-            *count += u64::from(is_met(moved));
-        }
+        add_kinds(kinds, counts, |is_met| is_met(moved));
     }
 
     /// A pool was moved and moved back.
     pub fn add_back(&mut self, back: &Back) {
-        for ((_, is_met), count) in BACK_KINDS.iter().zip(&mut self.backs) {
-            *count += u64::from(is_met(back));
-        }
+        add_kinds(&BACK_KINDS, &mut self.backs, |is_met| is_met(back));
     }
 
     /// A call was made and answered; where it was made on a pool that a move left.
@@ -44,26 +40,16 @@ impl MoveTally {
         if !call.pool.is_moved || !call.pool.holds_file {
             return;
         }
-        for ((_, is_met), count) in LATER_KINDS.iter().zip(&mut self.later) {
-            *count += u64::from(is_met(call));
-        }
+        add_kinds(&LATER_KINDS, &mut self.later, |is_met| is_met(call));
     }
 
     pub fn print(&self) {
         for (edition, counts) in (1..).zip(self.accepted) {
-            for ((name, _), count) in MOVE_KINDS.iter().zip(counts) {
-                println!("move: from edition {edition}, {name:32}{count:9}");
-            }
+            print_kinds(&format!("move: from edition {edition}, "), &MOVE_KINDS, &counts);
         }
-        for ((name, _), count) in REFUSED_KINDS.iter().zip(self.refused) {
-            println!("move: {name:32}{count:9}");
-        }
-        for ((name, _), count) in BACK_KINDS.iter().zip(self.backs) {
-            println!("move: there and back, {name:32}{count:9}");
-        }
-        for ((name, _), count) in LATER_KINDS.iter().zip(self.later) {
-            println!("move: and then {name:32}{count:9}");
-        }
+        print_kinds("move: ", &REFUSED_KINDS, &self.refused);
+        print_kinds("move: there and back, ", &BACK_KINDS, &self.backs);
+        print_kinds("move: and then ", &LATER_KINDS, &self.later);
     }
 
     pub fn never_met(&self) -> Vec<String> {

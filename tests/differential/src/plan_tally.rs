@@ -3,7 +3,7 @@
 
 use crate::plan_damages::PLAN_DAMAGES;
 use crate::plan_kinds::{Drawing, Planned, DRAWING_KINDS, PLAN_KINDS, PLAN_TAKERS, RUN_KINDS};
-use crate::tally::{unmet, Call};
+use crate::tally::{add_kinds, print_kinds, unmet, Call};
 use crate::wide_plans::WIDE_KINDS;
 
 /// What a call that takes a plan was given.
@@ -38,9 +38,7 @@ impl PlanTally {
         if let Some(kind) = plan.told_damage() {
             taken.damages[kind] += 1;
         }
-        for ((_, is_met), count) in PLAN_KINDS.iter().zip(&mut taken.kinds) {
-            *count += u64::from(is_met(plan));
-        }
+        add_kinds(&PLAN_KINDS, &mut taken.kinds, |is_met| is_met(plan));
         for ((_, is_met), count) in RUN_KINDS.iter().zip(&mut self.runs) {
             *count += u64::from(call == Call::RepairBy && is_met(plan));
         }
@@ -48,9 +46,7 @@ impl PlanTally {
 
     /// Our planner was asked for a plan.
     pub fn add_drawing(&mut self, drawing: &Drawing) {
-        for ((_, is_met), count) in DRAWING_KINDS.iter().zip(&mut self.drawings) {
-            *count += u64::from(is_met(drawing));
-        }
+        add_kinds(&DRAWING_KINDS, &mut self.drawings, |is_met| is_met(drawing));
     }
 
     /// A plan of many groups was tried, of the kind that has this number among [`WIDE_KINDS`].
@@ -61,19 +57,11 @@ impl PlanTally {
     pub fn print(&self) {
         for (taker, taken) in PLAN_TAKERS.iter().zip(&self.taken) {
             let taker = taker.name();
-            for ((name, _), count) in PLAN_DAMAGES.iter().zip(taken.damages) {
-                println!("plan: {taker:11}{name:32}{count:9}");
-            }
-            for ((name, _), count) in PLAN_KINDS.iter().zip(taken.kinds) {
-                println!("plan: {taker:11}{name:32}{count:9}");
-            }
+            print_kinds(&format!("plan: {taker:11}"), &PLAN_DAMAGES, &taken.damages);
+            print_kinds(&format!("plan: {taker:11}"), &PLAN_KINDS, &taken.kinds);
         }
-        for ((name, _), count) in RUN_KINDS.iter().zip(self.runs) {
-            println!("plan: repair_by  {name:32}{count:9}");
-        }
-        for ((name, _), count) in DRAWING_KINDS.iter().zip(self.drawings) {
-            println!("plan: draw_plan  {name:32}{count:9}");
-        }
+        print_kinds("plan: repair_by  ", &RUN_KINDS, &self.runs);
+        print_kinds("plan: draw_plan  ", &DRAWING_KINDS, &self.drawings);
         for ((name, _), count) in WIDE_KINDS.iter().zip(self.wide) {
             println!("plan of many groups: {name:32}{count:5}");
         }

@@ -3,7 +3,7 @@
 
 use crate::count_kinds::Counted;
 use crate::swap_kinds::{Swapped, LATER_KINDS, REFUSED_KINDS, SWAP_KINDS};
-use crate::tally::unmet;
+use crate::tally::{add_kinds, print_kinds, unmet};
 
 pub struct SwapTally {
     /// In edition 1, and in edition 2.
@@ -25,9 +25,7 @@ impl SwapTally {
             0 => (&SWAP_KINDS, &mut self.accepted[swapped.pool.layout.edition as usize - 1]),
             _ => (&REFUSED_KINDS, &mut self.refused),
         };
-        for ((_, is_met), count) in kinds.iter().zip(counts) {
-            *count += u64::from(is_met(swapped));
-        }
+        add_kinds(kinds, counts, |is_met| is_met(swapped));
     }
 
     /// A call was made and answered; where it was made on a row that took drives back.
@@ -35,23 +33,15 @@ impl SwapTally {
         if call.pool.returned.is_empty() || !call.pool.holds_file {
             return;
         }
-        for ((_, is_met), count) in LATER_KINDS.iter().zip(&mut self.later) {
-            *count += u64::from(is_met(call));
-        }
+        add_kinds(&LATER_KINDS, &mut self.later, |is_met| is_met(call));
     }
 
     pub fn print(&self) {
         for (edition, counts) in (1..).zip(self.accepted) {
-            for ((name, _), count) in SWAP_KINDS.iter().zip(counts) {
-                println!("swap: in edition {edition}, {name:32}{count:9}");
-            }
+            print_kinds(&format!("swap: in edition {edition}, "), &SWAP_KINDS, &counts);
         }
-        for ((name, _), count) in REFUSED_KINDS.iter().zip(self.refused) {
-            println!("swap: {name:32}{count:9}");
-        }
-        for ((name, _), count) in LATER_KINDS.iter().zip(self.later) {
-            println!("swap: and then {name:32}{count:9}");
-        }
+        print_kinds("swap: ", &REFUSED_KINDS, &self.refused);
+        print_kinds("swap: and then ", &LATER_KINDS, &self.later);
     }
 
     pub fn never_met(&self) -> Vec<String> {

@@ -238,9 +238,7 @@ impl Tally {
 
     /// A list was asked for and answered.
     pub fn add_list(&mut self, list: &Listed) {
-        for ((_, is_met), count) in KINDS.iter().zip(&mut self.lists) {
-            *count += u64::from(is_met(list));
-        }
+        add_kinds(&KINDS, &mut self.lists, |is_met| is_met(list));
         if list.range > 0 {
             self.ranges.add(list.range);
         }
@@ -248,9 +246,7 @@ impl Tally {
 
     /// A catalogue was asked and answered.
     pub fn add_catalogue(&mut self, asked: &Asked) {
-        for ((_, is_met), count) in CATALOGUE_KINDS.iter().zip(&mut self.catalogues) {
-            *count += u64::from(is_met(asked));
-        }
+        add_kinds(&CATALOGUE_KINDS, &mut self.catalogues, |is_met| is_met(asked));
     }
 
     /// A call was made and answered. One that takes no record is not counted here.
@@ -258,12 +254,8 @@ impl Tally {
         let Some(taker) = TAKERS.iter().position(|name| *name == call.call) else { return };
         self.moves.add_later(call);
         self.swaps.add_later(call);
-        for ((_, is_met), count) in COUNTS.iter().zip(&mut self.counts_taken[taker]) {
-            *count += u64::from(is_met(call));
-        }
-        for ((_, is_met), count) in COUNT_KINDS.iter().zip(&mut self.counted) {
-            *count += u64::from(is_met(call));
-        }
+        add_kinds(&COUNTS, &mut self.counts_taken[taker], |is_met| is_met(call));
+        add_kinds(&COUNT_KINDS, &mut self.counted, |is_met| is_met(call));
     }
 
     /// A layout whose pool is repaired by plans.
@@ -293,16 +285,12 @@ impl Tally {
 
     /// A first line was asked for and answered.
     pub fn add_first(&mut self, line: &FirstLine) {
-        for ((_, is_met), count) in FIRST_KINDS.iter().zip(&mut self.firsts) {
-            *count += u64::from(is_met(line));
-        }
+        add_kinds(&FIRST_KINDS, &mut self.firsts, |is_met| is_met(line));
     }
 
     /// A line was played and answered, or refused.
     pub fn add_line(&mut self, line: &Line) {
-        for ((_, is_met), count) in LINE_KINDS.iter().zip(&mut self.lines) {
-            *count += u64::from(is_met(line));
-        }
+        add_kinds(&LINE_KINDS, &mut self.lines, |is_met| is_met(line));
         match (line.event(), line.number()) {
             (Some(event), Some(number)) => self.events[event][number] += 1,
             (None, Some(_)) => self.malformed += 1,
@@ -422,6 +410,20 @@ impl Tally {
 fn numbers_met(counts: &[u64]) -> String {
     let met = counts.iter().enumerate().filter(|(_, count)| **count != 0);
     met.map(|(number, count)| format!("{number}: {count}")).collect::<Vec<_>>().join(", ")
+}
+
+/// One more of each kind that is met.
+pub fn add_kinds<T>(kinds: &[(&str, T)], counts: &mut [u64], is_met: impl Fn(&T) -> bool) {
+    for ((_, kind), count) in kinds.iter().zip(counts) {
+        *count += u64::from(is_met(kind));
+    }
+}
+
+/// A line for each kind, behind some words: how often it was met.
+pub fn print_kinds<T>(words: &str, kinds: &[(&str, T)], counts: &[u64]) {
+    for ((name, _), count) in kinds.iter().zip(counts) {
+        println!("{words}{name:32}{count:9}");
+    }
 }
 
 /// The kinds that were never counted, each named behind some words.
