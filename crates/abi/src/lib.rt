@@ -1,5 +1,7 @@
 // The public calls for C and Rust: each exported function is one public call, with that call's own
 // promise. docs/ABI.md says what a caller outside Rattle owes; include/splicebell.h declares them.
+#![tactic(auto)]
+
 ghost use Rattle.std.specs.Prelude.{◌≡◌, length};
 ghost use Rattle.layout.specs.Measure.{measured_of};
 ghost use Rattle.layout.specs.Tiles.{permuted_of, inverted_of};
@@ -91,7 +93,7 @@ pub extern "C" fn splicebell_map_byte(y: Layout, x: u64) -> Traced
 
 // A step of the walk as numbers: C has no enum that holds values.
 #[repr(C)]
-#[derive(Drop)]
+#[derive(Clone, Copy)]
 pub struct Walked {
     pub refusal: u64,
     pub done: bool,

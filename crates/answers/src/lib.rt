@@ -1,4 +1,6 @@
 // The answers of a replay as text, at a place of a lent buffer.
+#![tactic(auto)]
+
 ghost use Rattle.std.specs.Prelude.{◌≡◌, ◌≤◌, ◌+◌, ◌*◌, length};
 ghost use Rattle.lists.specs.Span.{Span};
 ghost use Rattle.lists.specs.Put.{Put};

@@ -1,4 +1,6 @@
 // Products of bytes, many in one call, for bench/ alone: the field's tables are taken once, as by every function that makes many products.
+#![tactic(auto)]
+
 ghost use Rattle.std.specs.Prelude.{◌≡◌, ◌≤◌, length, get_or};
 ghost use Rattle.lists.specs.Tabulate.{tabulate};
 ghost use Rattle.field.specs.Byte.{mul as product};

@@ -1,5 +1,7 @@
 // The catalogue of component objects: a lent slice of records, the first n strictly rising by device and then file. Every call tests
 // that itself; what it decides, it decides on values (crate `entries`), but for a count or a place past the slice.
+#![tactic(auto)]
+
 ghost use Rattle.std.specs.Prelude.{◌≡◌, true, ◌≤◌, ◌+◌, length, get_or, take};
 ghost use Rattle.entries.specs.Blank.{blank};
 ghost use Rattle.entries.specs.Key.{rising};

@@ -1,4 +1,6 @@
 // 2,400 seeded catalogue calls, legal and illegal ones, with the whole slice printed after each.
+#![tactic(auto)]
+
 use entries::{Entry, Key, Wide};
 use shelf::{Sheet, Shelf};
 use trial::{draw, newline, number, text};

@@ -1,6 +1,8 @@
 // The tests that the pool's calls make, in the order of document 01's table. Inner: the calls
 // themselves are `pool_read`, `pool_write`, `pool_list`, `pool_fail`, `pool_count`, `pool_repair`,
 // `pool_plan`, `pool_swap`, `pool_move` and `pool_look`.
+#![tactic(auto)]
+
 ghost use Rattle.std.specs.Prelude.{◌≡◌};
 ghost use Rattle.numbers.specs.Layouts.{Valid};
 ghost use Rattle.numbers.specs.Answers.{Numbered};

@@ -1,5 +1,7 @@
 // Encodings and rebuilds of groups over the whole range of N, K, U and missing sets, agreeing and disagreeing ones, and every refusal;
 // seeded, and compared with what `oracle/` prints.
+#![tactic(auto)]
+
 ghost use Rattle.std.specs.Prelude.{◌≤◌};
 ghost use Rattle.group_trial.specs.Bounds.{Bounded};
 

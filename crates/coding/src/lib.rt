@@ -1,4 +1,6 @@
 // Encoding and rebuilding of one group in one buffer, unit by unit, through the kernel.
+#![tactic(auto)]
+
 ghost use Rattle.std.specs.Prelude.{◌≡◌, ℕ, ◌+◌, ◌-◌, ◌*◌, ◌<◌, ◌≤◌, length, get_or};
 ghost use Rattle.lists.specs.Span.{Span};
 ghost use Rattle.parity.specs.Matrix.{flag, Holds};

@@ -1,5 +1,7 @@
 // The row controller's repair: plans that our planner draws and plans that the controller sends, each beside plain repair,
 // also where the units of a group disagree; then plans that are refused, wrong pools, and buffers for a plan.
+#![tactic(auto)]
+
 use homes::Record;
 use numbers::Layout;
 use row_trial::{no_failures, record_of, with_count};

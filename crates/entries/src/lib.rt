@@ -1,5 +1,7 @@
 // The records of the catalogue by value: their order, where a search goes on, and what each call makes of what it finds. Every decision of
 // the catalogue falls here, on values, but for what lies past a slice; the crate `catalogue` runs over the slices.
+#![tactic(auto)]
+
 ghost use Rattle.std.specs.Prelude.{◌≡◌, ◌<◌, ◌≤◌, ◌+◌, ◌^◌};
 ghost use Rattle.lists.specs.Pick.{both as bothOf};
 ghost use Rattle.entries.specs.Wide.{wide_lt, wide_eq};
@@ -13,7 +15,7 @@ ghost use Rattle.entries.specs.Roll.{moved_to};
 
 // The number of a file or of a cob, 128 bits wide: two words, the first the more significant.
 #[repr(C)]
-#[derive(Drop)]
+#[derive(Clone, Copy)]
 pub struct Wide {
     pub first: u64,
     pub second: u64,
@@ -21,7 +23,7 @@ pub struct Wide {
 
 // A record of the catalogue: the component object of a file on a device.
 #[repr(C)]
-#[derive(Drop)]
+#[derive(Clone, Copy)]
 pub struct Entry {
     pub device: u64,
     pub file: Wide,
@@ -30,7 +32,7 @@ pub struct Entry {
 
 // What a record is found by. A listing takes one too: the device, and the first file number.
 #[repr(C)]
-#[derive(Drop)]
+#[derive(Clone, Copy)]
 pub struct Key {
     pub device: u64,
     pub file: Wide,
@@ -121,7 +123,7 @@ pub fn same_cob(a: Wide, b: Wide) -> bool
 // ---- the pass that tests the order
 
 // The last key of the pass, and whether all so far rise.
-#[derive(Drop)]
+#[derive(Clone, Copy)]
 pub struct Pass {
     pub begun: bool,
     pub rising: bool,
@@ -175,7 +177,7 @@ pub fn is_past(k: Key, whole: bool, a: Key) -> bool
 }
 
 // The places between which a search still looks, and the one in their middle.
-#[derive(Drop)]
+#[derive(Clone, Copy)]
 pub struct Span {
     pub low: usize,
     pub at: usize,
@@ -218,7 +220,7 @@ pub fn trusted(n: usize, sound: bool) -> usize
 }
 
 // What a call finds of its key.
-#[derive(Drop)]
+#[derive(Clone, Copy)]
 pub struct Look {
     pub n: usize,
     pub len: usize,
@@ -253,7 +255,7 @@ pub fn look_at(n: usize, len: usize, sound: bool, key: Key, at: usize, there: En
 
 // What a lookup answers: 0 and the cob, or the number of a refusal and zeros.
 #[repr(C)]
-#[derive(Drop)]
+#[derive(Clone, Copy)]
 pub struct Found {
     pub refusal: u64,
     pub cob: Wide,
@@ -261,7 +263,7 @@ pub struct Found {
 
 // What an insertion or a deletion answers: 0 and the new count, or the number of a refusal and the old count.
 #[repr(C)]
-#[derive(Drop)]
+#[derive(Clone, Copy)]
 pub struct Changed {
     pub refusal: u64,
     pub count: usize,
@@ -269,7 +271,7 @@ pub struct Changed {
 
 // What a listing answers.
 #[repr(C)]
-#[derive(Drop)]
+#[derive(Clone, Copy)]
 pub struct Page {
     pub refusal: u64,
     pub count: usize,
@@ -306,7 +308,7 @@ pub fn answer(x: Look) -> Found
 }
 
 // A change, as a run over the slice and an answer. Each place of the run gets what the place before it had, the first one `first`.
-#[derive(Drop)]
+#[derive(Clone, Copy)]
 pub struct Plan {
     pub from: usize,
     pub count: usize,
@@ -416,7 +418,7 @@ pub fn moved(at: usize, down: bool) -> usize
 }
 
 // A listing, as a run over the slice and an answer.
-#[derive(Drop)]
+#[derive(Clone, Copy)]
 pub struct Show {
     pub from: usize,
     pub count: usize,

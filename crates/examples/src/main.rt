@@ -1,5 +1,7 @@
 // Document 01's checked examples of layouts, permutations, places, walks and offsets, in words; then the permutations of
 // edition 2.
+#![tactic(auto)]
+
 use layout::{Cursor, Step};
 use numbers::Layout;
 use tile::Generator;

@@ -1,4 +1,6 @@
 // The field of 256 with polynomial 0x11D: + is exclusive or. Products go by tables of powers of 2 and of logarithms.
+#![tactic(auto)]
+
 ghost use Rattle.std.specs.Prelude.{◌≡◌, ◌<◌};
 ghost use Rattle.field.specs.Byte.{double as twice, mul as product, inv as inverse, div as quotient};
 ghost use Rattle.field.specs.Powers.{power};

@@ -1,6 +1,8 @@
 // A row's settings through the years: its fitter adds lines to a text, in both versions and both editions, and after each line
 // the row is read by the reader of today and by the old one, which knows version 1 alone. Then damaged texts, and lines that
 // are not added.
+#![tactic(auto)]
+
 use numbers::Layout;
 use row_trial::{in_edition, row, row_of};
 use settings::Settings;

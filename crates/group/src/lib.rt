@@ -1,5 +1,7 @@
 // The public calls on one group: encode and rebuild. Each takes any numbers, tests everything itself, and answers a refusal number; a refused
 // call changes no byte.
+#![tactic(auto)]
+
 ghost use Rattle.std.specs.Prelude.{◌≡◌, ℕ, ◌<◌, ◌≤◌, length, get_or};
 ghost use Rattle.lists.specs.Count.{count};
 ghost use Rattle.lists.specs.Refusal.{unless};

@@ -1,5 +1,7 @@
 // One group of a pool in another image, by runs of bytes: its data, as they stand in the old image or rebuilt, at their places in the new one, its
 // parities worked out from those, and units of zeros. Nothing is kept beside the two images.
+#![tactic(auto)]
+
 ghost use Rattle.std.specs.Prelude.{◌≡◌, ℕ, ◌+◌, ◌<◌, ◌≤◌, length, get_or};
 ghost use Rattle.plan.specs.Plans.{at_of, Fits, Apart};
 ghost use Rattle.runs.specs.Run.{run_set};

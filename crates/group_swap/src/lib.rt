@@ -1,5 +1,7 @@
 // One group of a pool whose contents get other homes: all that move are taken up into a scratch before
 // any is put down, since one content's new home may be another's old one.
+#![tactic(auto)]
+
 ghost use Rattle.std.specs.Prelude.{◌≡◌, true, false, ℕ, ◌+◌, ◌*◌, ◌≤◌, ◌<◌, length, get_or};
 ghost use Rattle.lists.specs.Pick.{pick, bit};
 ghost use Rattle.runs.specs.Run.{run_set};
@@ -37,7 +39,7 @@ fn copy_units(
 }
 
 // Which contents move, and where in the scratch each of them is kept.
-#[derive(Drop)]
+#[derive(Clone, Copy)]
 pub struct Rooms {
     pub moves: [bool; 19],
     pub at: [usize; 19],

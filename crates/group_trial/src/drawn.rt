@@ -8,7 +8,7 @@ use trial::draw;
 const ONES: u64 = 18446744073709551615;
 
 // A group's N, K and U.
-#[derive(Drop)]
+#[derive(Clone, Copy)]
 pub struct Group {
     pub n: u64,
     pub k: u64,
@@ -16,7 +16,7 @@ pub struct Group {
 }
 
 // At most four units.
-#[derive(Drop)]
+#[derive(Clone, Copy)]
 pub struct Units {
     pub at: [u64; 4],
     pub count: usize,

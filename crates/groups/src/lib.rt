@@ -1,4 +1,6 @@
 // Read, write and repair of one group of the pool, by runs of bytes.
+#![tactic(auto)]
+
 ghost use Rattle.std.specs.Prelude.{◌≡◌, ◌+◌, ◌-◌, ◌*◌, ◌≤◌, ◌<◌, min, max, length, get_or};
 ghost use Rattle.lists.specs.Pick.{pick};
 ghost use Rattle.plan.specs.Plans.{at_of, miss_of, Fits, Apart};
@@ -13,7 +15,7 @@ ghost use Rattle.groups.specs.Mend.{group_mended, MendFits};
 use plan::Plan;
 
 // Byte o1 of data unit v1 is the first that is named, and byte o2 of unit v2 the first after them.
-#[derive(Drop)]
+#[derive(Clone, Copy)]
 pub struct Ends {
     pub v1: usize,
     pub o1: usize,

@@ -1,4 +1,6 @@
 // Hex digits and hex lines: a line written at a place of a text, and one that stands there tested and read back.
+#![tactic(auto)]
+
 ghost use Rattle.std.specs.Prelude.{◌≡◌, true, ◌<◌, ◌≤◌, ◌+◌, ◌*◌, ltb, length};
 ghost use Rattle.lists.specs.Pick.{pick};
 ghost use Rattle.lists.specs.Span.{Span};

@@ -1,4 +1,6 @@
 // Whole pools in hex lines, and refused lines of every number.
+#![tactic(auto)]
+
 ghost use Rattle.std.specs.Prelude.{◌≤◌};
 
 use hexline::hex_line;

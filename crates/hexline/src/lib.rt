@@ -1,4 +1,6 @@
 // The hex line of a frame.
+#![tactic(auto)]
+
 ghost use Rattle.std.specs.Prelude.{◌≡◌};
 ghost use Rattle.hexline.specs.HexLine.{hex_refusal, HexLine};
 

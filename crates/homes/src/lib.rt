@@ -1,4 +1,6 @@
 // The record of failed targets, and where the contents of a group live under it.
+#![tactic(auto)]
+
 ghost use Rattle.std.specs.Prelude.{◌≡◌, ℕ, ◌+◌, ◌<◌, ◌≤◌, eqb, ltb};
 ghost use Rattle.lists.specs.Pick.{pick};
 ghost use Rattle.lists.specs.Search.{all, lowest};
@@ -17,7 +19,7 @@ use numbers::Layout;
 // Entries from k on are never read. `waiting` counts the units that wait for repair. Any values may
 // stand in it.
 #[repr(C)]
-#[derive(Drop)]
+#[derive(Clone, Copy)]
 pub struct Record {
     pub failed: [u64; 3],
     pub k: u64,

@@ -1,5 +1,7 @@
 // Sums of multiples of runs of bytes: a block at a time in a local array, digit after digit of the factors, highest first (Horner's rule).
 // Which runs each digit adds is planned once a call, so that no factor is looked at in the loops over bytes.
+#![tactic(auto)]
+
 ghost use Rattle.std.specs.Prelude.{◌≡◌, false, ℕ, ◌+◌, ◌-◌, ◌*◌, ◌/◌, ◌%◌, ◌^◌, ◌<◌, ◌≤◌, length, get_or};
 ghost use Rattle.field.specs.Byte.{double, ◌⊕◌};
 ghost use Rattle.lists.specs.Span.{Span};

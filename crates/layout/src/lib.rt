@@ -1,6 +1,8 @@
 // The public calls on a layout: its numbers, a tile's permutation, places, file offsets, image bytes,
 // and the walk over one target. Each takes any numbers, tests everything itself, and answers a
 // refusal number.
+#![tactic(auto)]
+
 ghost use Rattle.std.specs.Prelude.{◌≡◌, ◌<◌};
 ghost use Rattle.numbers.specs.Layouts.{Valid, all_groups};
 ghost use Rattle.place.specs.Bytes.{offset_of};
@@ -16,7 +18,7 @@ use place::Unit;
 // ---- the numbers
 
 #[repr(C)]
-#[derive(Drop)]
+#[derive(Clone, Copy)]
 pub struct Measured {
     pub refusal: u64,
     pub numbers: Numbers,
@@ -56,7 +58,7 @@ pub fn measure(y: Layout) -> Measured
 // ---- the permutation of a tile
 
 #[repr(C)]
-#[derive(Drop)]
+#[derive(Clone, Copy)]
 pub struct Entries {
     pub refusal: u64,
     pub entries: [u8; 64],
@@ -114,7 +116,7 @@ pub fn tile_inverse(y: Layout, tile: u64) -> Entries
 
 // A unit's place, and the image byte at which the unit begins.
 #[repr(C)]
-#[derive(Drop)]
+#[derive(Clone, Copy)]
 pub struct Placed {
     pub refusal: u64,
     pub frame: u64,
@@ -166,7 +168,7 @@ pub fn find_place(y: Layout, group: u64, unit: u64) -> Placed
 
 // The unit that lies at a place.
 #[repr(C)]
-#[derive(Drop)]
+#[derive(Clone, Copy)]
 pub struct Held {
     pub refusal: u64,
     pub group: u64,
@@ -216,7 +218,7 @@ pub fn find_unit(y: Layout, frame: u64, target: u64) -> Held
 
 // A file offset's group, unit and byte in the unit, and its image byte while nothing has failed.
 #[repr(C)]
-#[derive(Drop)]
+#[derive(Clone, Copy)]
 pub struct Mapped {
     pub refusal: u64,
     pub group: u64,
@@ -276,7 +278,7 @@ pub fn map_offset(y: Layout, offset: u64) -> Mapped
 // An image byte's group, unit and byte in the unit; whether the unit is a data unit, and the byte's
 // file offset then, while nothing has failed.
 #[repr(C)]
-#[derive(Drop)]
+#[derive(Clone, Copy)]
 pub struct Traced {
     pub refusal: u64,
     pub group: u64,
@@ -355,14 +357,14 @@ pub fn map_byte(y: Layout, x: u64) -> Traced
 // ---- the walk over one target
 
 #[repr(C)]
-#[derive(Drop)]
+#[derive(Clone, Copy)]
 pub struct Cursor {
     pub target: u64,
     pub frame: u64,
 }
 
 // The unit at the cursor with the next cursor; or the cursor unchanged.
-#[derive(Drop)]
+#[derive(Clone, Copy)]
 pub enum Step {
     At(Unit, Cursor),
     Done(Cursor),

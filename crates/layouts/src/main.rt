@@ -1,5 +1,7 @@
 // Layouts over the whole range, with their numbers, permutations, places, offsets, image bytes,
 // walks and refusals; seeded, and compared with what `oracle/` prints.
+#![tactic(auto)]
+
 mod bounds;
 mod drawn;
 mod show;

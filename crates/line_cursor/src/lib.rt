@@ -1,5 +1,7 @@
 // Lines cut from a stream of lent pieces. A line may cross pieces, and of a long one only its beginning is kept: 8,301 bytes, the longest line with its
 // newline. A longer line is malformed whatever its end is.
+#![tactic(auto)]
+
 ghost use Rattle.std.specs.Prelude.{◌≡◌, ◌<◌, ◌≤◌, ◌+◌, ◌-◌, ◌++◌, ltb, length, take, drop};
 ghost use Rattle.lists.specs.Pick.{pick};
 ghost use Rattle.line_cursor.specs.Lines.{newline_within, line_end, whole_of, kept_of};

@@ -1,6 +1,6 @@
 -- Refusal numbers. "Where several apply, the lowest is given. None is given otherwise."
 use Rattle.std.specs.Prelude.{◌≡◌, refl, ◌⊎◌, Bool, true, false, List, [], ◌∷◌, ◌++◌, ℕ, zero, suc, ◌≤◌, ◌<◌, leb}
-use Rattle.std.proofs.Common.{sym, ap, ◌∙◌, inl, inr, ⊎_elim, le_trans, arith, leb-true}
+use Rattle.std.proofs.Common.{sym, ap, ◌∙◌, subst, inl, inr, ⊎_elim, le_trans, arith, leb-true}
 use Rattle.lists.specs.Pick.{pick, both, both_true, either_way, clash}
 
 -- n unless the test holds
@@ -72,6 +72,7 @@ pub record LowestThatApplies (t : List (Bool × ℕ)) (n : ℕ) : Type 0 where
 
 step_fails : (b : Bool) (m rest : ℕ) → 0 < m → b ≡ false → unless b m or_else rest ≡ m
 unfolding ◌or_else◌
+step_fails b zero rest h e = elim h [ ]
 step_fails b (suc m) rest h e = ap (λ (x : Bool). unless x (suc m) or_else rest) e
 
 pub step-passes : (b : Bool) (m rest : ℕ) → b ≡ true → unless b m or_else rest ≡ rest
@@ -96,15 +97,15 @@ refusal_lowest n (x ∷ xs) pos r =
     let ih = refusal_lowest x.1 xs some h.1 in
     let same = step-passes x.0 x.1 (refusal_by xs) e in
     record {
-      applies = λ k. inr (rw same (ih.applies (rw same at k)));
-      lowest = λ m f. rw same (⊎_elim (λ (q : (x.0 ≡ false) × (x.1 ≡ m)). clash x.0 e q.0) (λ (g : FailsWith m xs). ih.lowest m g) f);
-      none = λ z. (e, ih.none (rw same at z));
+      applies = λ k. inr (subst (λ z. FailsWith z xs) (sym same) (ih.applies (subst (λ z. 0 < z) same k)));
+      lowest = λ m f. subst (λ z. (0 < z) × (z ≤ m)) (sym same) (⊎_elim (λ (q : (x.0 ≡ false) × (x.1 ≡ m)). clash x.0 e q.0) (λ (g : FailsWith m xs). ih.lowest m g) f);
+      none = λ z. (e, ih.none (sym same ∙ z));
     })
     (λ (e : x.0 ≡ false).
     let same = step_fails x.0 x.1 (refusal_by xs) some e in
     record {
       applies = λ k. inl (e, sym same);
-      lowest = λ m f. rw same (some, ⊎_elim (λ (q : (x.0 ≡ false) × (x.1 ≡ m)). omega (arith, q.1)) (λ (g : FailsWith m xs). low_enough x.1 xs m h.1 g) f);
+      lowest = λ m f. subst (λ z. (0 < z) × (z ≤ m)) (sym same) (some, ⊎_elim (λ (q : (x.0 ≡ false) × (x.1 ≡ m)). omega (arith, q.1)) (λ (g : FailsWith m xs). low_enough x.1 xs m h.1 g) f);
       none = λ z. absurd (omega (arith, same, z, some));
     })
     (either_way x.0)

@@ -1,4 +1,6 @@
 // The loops and the refusal arithmetic that the other crates share.
+#![tactic(auto)]
+
 ghost use Rattle.std.specs.Prelude.{◌≡◌, length};
 ghost use Rattle.lists.specs.Tabulate.{zeros};
 ghost use Rattle.lists.specs.Refusal.{◌or_else◌};

@@ -1,5 +1,7 @@
 // A row's pool by mail: written as text, read back, and damaged on its way in the ways listed below.
 // The row is that of `morning`; its pool is 20 lines of 27 characters, so that all of it can be shown.
+#![tactic(auto)]
+
 use numbers::Layout;
 use row_trial::{no_failures, put, row, row_of};
 use trial::{answer, decimal, say_same, set_all, text};

@@ -2,6 +2,8 @@
 // dies in the rush, kiosks go on writing, the claims desk goes on reading, and the row is repaired.
 // The service panel shows how many units wait for that, and the count is audited. In the afternoon
 // the dead drive is swapped for a new one, and the row is whole again: another one may die.
+#![tactic(auto)]
+
 use homes::Record;
 use row_trial::{
     fill_drive, get, inspect, lose, mend, no_failures, put, row, wipe_drive_2, with_count,

@@ -1,4 +1,6 @@
 // The numbers of a layout.
+#![tactic(auto)]
+
 ghost use Rattle.std.specs.Prelude.{◌≡◌, ◌≤◌};
 ghost use Rattle.numbers.specs.Gcd.{gcd as gcdOf};
 ghost use Rattle.numbers.specs.Layouts.{Valid, all_groups, all_contents};
@@ -10,7 +12,7 @@ ghost use Rattle.numbers.specs.Editions.{other_edition};
 // U bytes a unit, T tiles, and the cookie that the permutations start from. And document 02's
 // edition of the permutations, 1 or 2: document 01's are edition 1.
 #[repr(C)]
-#[derive(Drop)]
+#[derive(Clone, Copy)]
 pub struct Layout {
     pub n: u64,
     pub k: u64,
@@ -22,7 +24,7 @@ pub struct Layout {
 }
 
 // W, B, L and C.
-#[derive(Drop)]
+#[derive(Clone, Copy)]
 pub struct Shape {
     pub w: u64,
     pub b: u64,
@@ -32,7 +34,7 @@ pub struct Shape {
 
 // All the numbers that follow from a layout.
 #[repr(C)]
-#[derive(Drop)]
+#[derive(Clone, Copy)]
 pub struct Numbers {
     pub w: u64,
     pub b: u64,

@@ -1,5 +1,7 @@
 // One group of n data and k parity units with some units missing: the units that are read in their place, and for each missing unit its row
 // of coefficients over those. Worked out once for a set of missing units, whatever the bytes are.
+#![tactic(auto)]
+
 ghost use Rattle.std.specs.Prelude.{◌≡◌, true, ℕ, ◌+◌, ◌-◌, ◌<◌, ◌≤◌, length, get_or};
 ghost use Rattle.lists.specs.Pick.{pick, bit};
 ghost use Rattle.lists.specs.Count.{count};
@@ -13,7 +15,7 @@ ghost use Rattle.parity.specs.Group.{Solvable};
 ghost use Rattle.parity.specs.Rows.{slot};
 
 // At most three numbers, in order, with zeros after them.
-#[derive(Drop)]
+#[derive(Clone, Copy)]
 pub struct Few {
     pub at: [usize; 3],
     pub count: usize,

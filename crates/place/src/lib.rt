@@ -1,4 +1,6 @@
 // Where units lie, and which unit lies at a place.
+#![tactic(auto)]
+
 ghost use Rattle.std.specs.Prelude.{◌≡◌, ℕ, ◌+◌, ◌<◌};
 ghost use Rattle.lists.specs.Tabulate.{at};
 ghost use Rattle.numbers.specs.Layouts.{Valid, width, frames, all_groups, image_length};
@@ -11,14 +13,14 @@ ghost use Rattle.place.specs.Asked.{Holding};
 use numbers::{Layout, Shape};
 
 // A column of the row of one frame of each target: the permutation of the row's tile tells the column's target.
-#[derive(Drop)]
+#[derive(Clone, Copy)]
 pub struct Cell {
     pub frame: u64,
     pub column: u64,
 }
 
 // A frame of a target.
-#[derive(Drop)]
+#[derive(Clone, Copy)]
 pub struct Place {
     pub frame: u64,
     pub target: u64,
@@ -26,7 +28,7 @@ pub struct Place {
 
 // A unit of a group.
 #[repr(C)]
-#[derive(Drop)]
+#[derive(Clone, Copy)]
 pub struct Unit {
     pub group: u64,
     pub unit: u64,

@@ -1,5 +1,7 @@
 // A group of a pool as read, write and repair go about it: where the unit of each content lies in the image, which contents are missing, and
 // the coefficients that rebuild them. What hangs on the missing contents alone is worked out once and kept from group to group.
+#![tactic(auto)]
+
 ghost use Rattle.std.specs.Prelude.{◌≡◌, true, false, not, [], ℕ, ◌+◌, ◌<◌, ◌≤◌, length, get_or, replicate};
 ghost use Rattle.lists.specs.Count.{count};
 ghost use Rattle.lists.specs.Those.{those};
@@ -9,7 +11,7 @@ ghost use Rattle.parity.specs.Group.{Solvable};
 ghost use Rattle.plan.specs.Plans.{lines_of, Codes, Right, Planned};
 
 // Three rows of coefficients.
-#[derive(Drop)]
+#[derive(Clone, Copy)]
 pub struct Lines {
     pub first: [u8; 16],
     pub second: [u8; 16],
@@ -19,7 +21,7 @@ pub struct Lines {
 // n data and k parity units of u bytes. `at`: the image byte where each content's unit begins. `rank`: how many contents below each are
 // missing. `slots`: the units that are read where some are missing, and `rows` the coefficients over them of each missing content, lowest
 // first. `codes`: the coefficients of each parity unit over the data. `gone`: how many contents are missing.
-#[derive(Drop)]
+#[derive(Clone, Copy)]
 pub struct Plan {
     pub n: usize,
     pub k: usize,

@@ -1,4 +1,6 @@
 // The public calls of the count of missing units: what the service panel shows, and the audit.
+#![tactic(auto)]
+
 ghost use Rattle.pool.specs.Calls.{Audits, Panels};
 
 use homes::Record;
@@ -6,7 +8,7 @@ use numbers::Layout;
 
 // The units that wait for repair, the targets that have failed, and how many of these are repaired.
 #[repr(C)]
-#[derive(Drop)]
+#[derive(Clone, Copy)]
 pub struct Counts {
     pub refusal: u64,
     pub waiting: u64,

@@ -1,11 +1,13 @@
 // The public call that marks a target as failed.
+#![tactic(auto)]
+
 ghost use Rattle.pool.specs.Calls.{Fails};
 
 use homes::Record;
 use numbers::Layout;
 
 #[repr(C)]
-#[derive(Drop)]
+#[derive(Clone, Copy)]
 pub struct Failed {
     pub refusal: u64,
     pub rec: Record,

@@ -1,5 +1,7 @@
 // A list of writes in one call: "At the end of a session the kiosk has photograph, weight and tag to
 // store." A range is a pair, its offset and its length; the tests are made once for the whole list.
+#![tactic(auto)]
+
 ghost use Rattle.std.specs.Prelude.{◌≡◌, ℕ, ◌≤◌, ◌<◌, length};
 ghost use Rattle.lists.specs.Count.{sum};
 ghost use Rattle.lists.specs.First.{first_failing};
@@ -12,7 +14,7 @@ use numbers::Layout;
 
 // The refusal number, and with 4 the first range that is outside, counted from 1; 0 where the number is another, or where there are too many.
 #[repr(C)]
-#[derive(Drop)]
+#[derive(Clone, Copy)]
 pub struct ListWritten {
     pub refusal: u64,
     pub range: u64,

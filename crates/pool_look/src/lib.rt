@@ -1,4 +1,6 @@
 // The two public steps of a look at one content: prepare, then show.
+#![tactic(auto)]
+
 ghost use Rattle.std.specs.Prelude.{◌≡◌, length, ◌<◌};
 ghost use Rattle.numbers.specs.Layouts.{all_groups};
 ghost use Rattle.pool.specs.Asked.{Sound};
@@ -50,7 +52,7 @@ pub fn prepare(
 // Where the second step finds the unit: in the scratch where it is missing, else in the image. A
 // refused look has an empty part.
 #[repr(C)]
-#[derive(Drop)]
+#[derive(Clone, Copy)]
 pub struct Shown {
     pub refusal: u64,
     pub missing: bool,

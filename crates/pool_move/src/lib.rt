@@ -1,5 +1,7 @@
 // The public call that moves a pool between editions: a second lent image is filled with the same file in the other edition. The old image is only
 // read, and nothing is kept beside the two.
+#![tactic(auto)]
+
 ghost use Rattle.std.specs.Prelude.{◌≡◌, length};
 ghost use Rattle.numbers.specs.Layouts.{image_length};
 ghost use Rattle.numbers.specs.Editions.{other_edition};

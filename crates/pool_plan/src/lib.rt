@@ -1,5 +1,7 @@
 // The public calls of repair by a proposed plan: the checker, the repair, and our planner. A plan is a slice of numbers, one entry after another, each
 // of N+2 numbers: group, content, and the N contents of that group to rebuild it from.
+#![tactic(auto)]
+
 ghost use Rattle.std.specs.Prelude.{◌≡◌};
 ghost use Rattle.proposal.specs.Running.{plan_refusal};
 ghost use Rattle.proposal.specs.Calls.{RepairsBy, ChecksPlan, Draws};
@@ -10,7 +12,7 @@ use pool_repair::Repaired;
 
 // How many numbers of the buffer the plan takes, from the first on; 0 where refused.
 #[repr(C)]
-#[derive(Drop)]
+#[derive(Clone, Copy)]
 pub struct Drawn {
     pub refusal: u64,
     pub length: u64,

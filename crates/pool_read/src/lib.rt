@@ -1,4 +1,6 @@
 // The public call that reads bytes of the file.
+#![tactic(auto)]
+
 ghost use Rattle.std.specs.Prelude.{◌≡◌, ◌+◌, ◌≤◌, length};
 ghost use Rattle.lists.specs.Tabulate.{tabulate};
 ghost use Rattle.numbers.specs.Layouts.{capacity};

@@ -1,5 +1,7 @@
 // The public call that repairs the pool: every missing content is stored at its home under the
 // whole list of failed targets.
+#![tactic(auto)]
+
 ghost use Rattle.std.specs.Prelude.{◌≡◌, length};
 ghost use Rattle.numbers.specs.Layouts.{all_groups, image_length};
 ghost use Rattle.pool.specs.Asked.{Sound};
@@ -13,7 +15,7 @@ use numbers::{Layout, Shape};
 use survey::Survey;
 
 #[repr(C)]
-#[derive(Drop)]
+#[derive(Clone, Copy)]
 pub struct Repaired {
     pub refusal: u64,
     pub count: u64,

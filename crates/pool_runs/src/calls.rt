@@ -5,7 +5,7 @@ use row_trial::{no_failures, with_count};
 use trial::{checksum, newline, number, text};
 
 // A pool's layout with its numbers, and the record that the last call returned.
-#[derive(Drop)]
+#[derive(Clone, Copy)]
 pub struct Run {
     pub y: Layout,
     pub numbers: Numbers,

@@ -145,7 +145,7 @@ pub fn start(run: Run, image: &mut [u8], seed: &mut u64) -> Run {
 
 // ---- ranges
 
-#[derive(Drop)]
+#[derive(Clone, Copy)]
 pub struct Extent {
     pub offset: u64,
     pub length: u64,
@@ -259,7 +259,7 @@ pub fn swapped(run: Run, seed: &mut u64) -> u64 {
     crate::calls::entry(run.rec, below(seed, run.rec.k))
 }
 
-#[derive(Drop)]
+#[derive(Clone, Copy)]
 pub struct View {
     pub group: u64,
     pub content: u64,

@@ -1,5 +1,7 @@
 // Seeded runs of events on pools: writes, failures, repairs, swapped drives, reads, looks, panels, scribbles, other counts
 // and refused calls, each answer printed with a checksum of the whole image and the record after it; and rows over the years.
+#![tactic(auto)]
+
 mod bad;
 mod calls;
 mod drawn;

@@ -1,5 +1,7 @@
 // The public call that takes back a target whose drive was swapped for a new one: the contents of the
 // pool go to their homes under the list without it.
+#![tactic(auto)]
+
 ghost use Rattle.std.specs.Prelude.{◌≡◌, length};
 ghost use Rattle.homes.specs.Dropping.{without};
 ghost use Rattle.swapping.specs.Swapping.{swap_refusal, swapped_image, Swaps};
@@ -9,7 +11,7 @@ use homes::Record;
 use numbers::Layout;
 
 #[repr(C)]
-#[derive(Drop)]
+#[derive(Clone, Copy)]
 pub struct Swapped {
     pub refusal: u64,
     pub rec: Record,

@@ -1,5 +1,7 @@
 // A pool as text: the hex lines of all its frames in one text, written and read back. Both calls take any input, test everything themselves
 // and answer a refusal number; what a refused call was lent to fill is zeros over its whole length.
+#![tactic(auto)]
+
 ghost use Rattle.std.specs.Prelude.{◌≡◌, ◌<◌, ◌+◌, ◌*◌, length};
 ghost use Rattle.numbers.specs.Layouts.{Valid, frames as framesOf, image_length};
 ghost use Rattle.pool_text.specs.Text.{line_count, text_length, pool_text};
@@ -11,14 +13,14 @@ use numbers::Layout;
 
 // The answer of the reader: with refusal 12, `line` is the first wrong line, counted from 1; else 0.
 #[repr(C)]
-#[derive(Drop)]
+#[derive(Clone, Copy)]
 pub struct TextRead {
     pub refusal: u64,
     pub line: u64,
 }
 
 // Line i: where it begins in the text, where its unit begins in the image, its target and its frame.
-#[derive(Drop)]
+#[derive(Clone, Copy)]
 pub struct Line {
     pub i: u64,
     pub at: usize,

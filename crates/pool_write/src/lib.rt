@@ -1,4 +1,6 @@
 // Writing to the file that a pool holds: the tests, then one range.
+#![tactic(auto)]
+
 ghost use Rattle.pool.specs.Calls.{Writes};
 
 use homes::Record;

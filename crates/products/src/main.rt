@@ -1,4 +1,6 @@
 // All products and quotients of two bytes, a row to a line, and the 48 coefficients; compared with what `oracle/` prints.
+#![tactic(auto)]
+
 ghost use Rattle.std.specs.Prelude.{◌<◌};
 
 use trial::{decimal, newline, number, text};

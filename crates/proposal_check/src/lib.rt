@@ -1,5 +1,7 @@
 // The checker of a proposed plan: is each missing content named once, each of its sources a different present content of its group, and nothing
 // else named. No scratch is lent for it and there is no heap, so that nothing is named twice is seen window by window, with local marks. Inner.
+#![tactic(auto)]
+
 ghost use Rattle.std.specs.Prelude.{◌≡◌, ℕ, ◌+◌, ◌*◌, ◌≤◌, length, get_or};
 ghost use Rattle.lists.specs.Search.{all};
 ghost use Rattle.numbers.specs.Layouts.{Valid};

@@ -1,4 +1,6 @@
 // Our planner: groups rise, contents rise within each, and the sources are the N lowest present contents. Inner.
+#![tactic(auto)]
+
 ghost use Rattle.std.specs.Prelude.{◌≡◌, ◌+◌, ◌*◌, ◌≤◌, length};
 ghost use Rattle.lists.specs.Count.{count};
 ghost use Rattle.lists.specs.Passing.{over};

@@ -1,4 +1,6 @@
 // An accepted plan is run: entry after entry, in the plan's own order, each content is rebuilt from its entry's sources within the image. Inner.
+#![tactic(auto)]
+
 ghost use Rattle.std.specs.Prelude.{◌≡◌, length};
 ghost use Rattle.numbers.specs.Layouts.{image_length};
 ghost use Rattle.pool.specs.Asked.{Sound};

@@ -1,5 +1,7 @@
 // A range of the file written, one group after another, each with its own plan. Inner: the calls are `pool_write::write` and
 // `pool_list::write_list`.
+#![tactic(auto)]
+
 ghost use Rattle.std.specs.Prelude.{◌≡◌, ◌+◌, ◌≤◌, length};
 ghost use Rattle.numbers.specs.Layouts.{capacity};
 ghost use Rattle.pool.specs.Asked.{Sound};

@@ -1,5 +1,7 @@
 // A recorded trace from standard input, replayed: each line's answer goes to standard output. What a line means and does is in `replay_line`, where
 // lines end in `line_cursor`; here bytes come and go. Like the other programs it is held to nothing but to be safe; what it prints is compared.
+#![tactic(auto)]
+
 ghost use Rattle.std.specs.Prelude.{◌≡◌, ◌≤◌, length};
 
 use homes::Record;
@@ -8,7 +10,7 @@ use numbers::Layout;
 
 // How far a replay is: the first line's layout once it is read, the record, how many bytes the image has, how many bytes of a line that crosses pieces
 // are held, and how many bytes of answers wait to be written.
-#[derive(Drop)]
+#[derive(Clone, Copy)]
 struct Replay {
     begun: bool,
     ended: bool,

@@ -1,5 +1,7 @@
 // A recorded trace replayed line by line: the first line's layout, and one event after another. Both calls take any input and test everything
 // themselves. A line is lent with its newline; the answer is text, as it is printed, with its newline.
+#![tactic(auto)]
+
 ghost use Rattle.std.specs.Prelude.{◌≡◌, ◌≤◌, ◌+◌, ◌*◌, [], ◌∷◌, length};
 ghost use Rattle.hex.specs.Digit.{number_at};
 ghost use Rattle.hex.specs.Hex.{hex_of};
@@ -21,7 +23,7 @@ use numbers::Layout;
 
 // What a first line tells: the layout, and how many bytes the image of its pool has; zeros where it is refused.
 #[repr(C)]
-#[derive(Drop)]
+#[derive(Clone, Copy)]
 pub struct FirstLine {
     pub refusal: u64,
     pub layout: Layout,
@@ -111,7 +113,7 @@ fn say_bytes(y: Layout, r: Record, image: &[u8], offset: u64, size: usize, answe
 
 // What a played line leaves beside image and answer. Refused, `length` is 0 and `rec` is the record that was given.
 #[repr(C)]
-#[derive(Drop)]
+#[derive(Clone, Copy)]
 pub struct Played {
     pub refusal: u64,
     pub length: u64,

@@ -1,5 +1,7 @@
 // The row of drives that the programs in words speak of, and the pool's calls on it. They are held to nothing here but to
 // be safe: what the programs write is compared with `oracle/`, and without promises their check is short.
+#![tactic(auto)]
+
 use homes::Record;
 use numbers::Layout;
 use trial::{answer_line, decimal, set_all, text};

@@ -1,4 +1,6 @@
 // Runs of bytes of one group: copied, cleared, and rebuilt where a content is missing.
+#![tactic(auto)]
+
 ghost use Rattle.std.specs.Prelude.{◌≡◌, true, ℕ, ◌+◌, ◌<◌, ◌≤◌, length, get_or};
 ghost use Rattle.plan.specs.Plans.{at_of, miss_of, Fits};
 ghost use Rattle.runs.specs.Run.{run_set};

@@ -1,5 +1,7 @@
 // The end of a kiosk's session: photograph, weight and tag stored by one list of writes, beside the same three writes
 // one after the other, also with a drive dead; then lists at the bounds, and lists that are refused.
+#![tactic(auto)]
+
 use homes::Record;
 use numbers::Layout;
 use row_trial::{

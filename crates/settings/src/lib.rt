@@ -1,4 +1,6 @@
 // A row's settings as text: its layout numbers, a record a line, the newest last. The three calls take any input and test everything themselves.
+#![tactic(auto)]
+
 ghost use Rattle.std.specs.Prelude.{◌≡◌, true, eqb};
 ghost use Rattle.lists.specs.Pick.{pick};
 ghost use Rattle.settings.specs.Settings.{is_version, edition_of, setting_layout, has_form, is_setting};
@@ -101,7 +103,7 @@ fn is_setting(line: &[u8]) -> bool
 
 // Refused, `used` is as it was given.
 #[repr(C)]
-#[derive(Drop)]
+#[derive(Clone, Copy)]
 pub struct Added {
     pub refusal: u64,
     pub used: usize,
@@ -148,7 +150,7 @@ pub fn add(version: u64, y: Layout, buffer: &mut [u8], used: usize) -> Added
 // ---- reading the newest
 
 // What a reader finds in a text: its first malformed line, counted from 1, or 0; and where its newest line begins.
-#[derive(Drop)]
+#[derive(Clone, Copy)]
 struct Seen {
     malformed: u64,
     newest: usize,
@@ -181,7 +183,7 @@ fn scan(text: &[u8]) -> Seen
 
 // Where the refusal is 12, `line` is the first malformed line, counted from 1; else 0. Refused, the layout is zeros.
 #[repr(C)]
-#[derive(Drop)]
+#[derive(Clone, Copy)]
 pub struct Settings {
     pub refusal: u64,
     pub line: u64,

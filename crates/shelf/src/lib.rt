@@ -1,4 +1,6 @@
 // A catalogue of eight slots by value, for callers in Rattle: each call of the crate `catalogue` with plain parameters.
+#![tactic(auto)]
+
 ghost use Rattle.std.specs.Prelude.{◌≡◌};
 ghost use Rattle.entries.specs.Catalogue.{insert_of, inserted_list, delete_of, deleted_list, listing_of, listed_out};
 ghost use Rattle.entries.specs.Promise.{Lookup};
@@ -8,7 +10,7 @@ use entries::{Changed, Entry, Found, Key, Page, Wide};
 
 // The slots after a change, and its answer.
 #[repr(C)]
-#[derive(Drop)]
+#[derive(Clone, Copy)]
 pub struct Shelf {
     pub slots: [Entry; 8],
     pub refusal: u64,
@@ -27,7 +29,7 @@ fn bound(a: [Entry; 8], c: Changed) -> Shelf
 
 // The output of a listing, and its answer.
 #[repr(C)]
-#[derive(Drop)]
+#[derive(Clone, Copy)]
 pub struct Sheet {
     pub out: [Wide; 4],
     pub refusal: u64,

@@ -1,6 +1,8 @@
 // The plan of one group of a pool after another, under a failure record: the permutation is worked
 // out once a tile, homes and missing contents once a group, and the rows of coefficients only
 // where another set of contents is missing than in the group before.
+#![tactic(auto)]
+
 ghost use Rattle.std.specs.Prelude.{◌≡◌, false, ℕ, ◌+◌, ◌≤◌, ◌<◌, get_or};
 ghost use Rattle.numbers.specs.Layouts.{Valid, width, contents, all_groups};
 ghost use Rattle.numbers.specs.Answers.{Shaped};
@@ -17,7 +19,7 @@ use numbers::{Layout, Shape};
 use plan::Plan;
 
 // The target of each unit of a group, and where the unit begins in the image.
-#[derive(Drop)]
+#[derive(Clone, Copy)]
 pub struct Sites {
     pub targets: [u8; 22],
     pub starts: [usize; 22],
@@ -117,7 +119,7 @@ fn home_starts(starts: [usize; 22], homes: [usize; 19], m: usize) -> [usize; 19]
 }
 
 // Where a group's contents begin, and which of them are missing.
-#[derive(Drop)]
+#[derive(Clone, Copy)]
 pub struct Stand {
     pub at: [usize; 19],
     pub missing: [bool; 19],
@@ -166,7 +168,7 @@ pub fn new_starts(y: Layout, s: Shape, r: Record, to: &[u8; 64], g: u64) -> [usi
 }
 
 // Where a group's contents begin under one record, and where under another.
-#[derive(Drop)]
+#[derive(Clone, Copy)]
 pub struct Shift {
     pub from: [usize; 19],
     pub to: [usize; 19],
@@ -195,7 +197,7 @@ pub fn shift_of(y: Layout, s: Shape, r: Record, other: Record, to: &[u8; 64], g:
 }
 
 // The tile whose permutation is in hand, and the plan of the group last looked at.
-#[derive(Drop)]
+#[derive(Clone, Copy)]
 pub struct Survey {
     pub tile: u64,
     pub to: [u8; 64],

@@ -1,5 +1,7 @@
 // The coefficients of the parity code, and small systems over the field with a matrix held by value, rows of rows. What makes products has the
 // field's tables lent.
+#![tactic(auto)]
+
 ghost use Rattle.std.specs.Prelude.{◌≡◌, ℕ, ◌<◌, get_or};
 ghost use Rattle.field.specs.Byte.{mul as product};
 ghost use Rattle.field.specs.Tables.{Tables};

@@ -1,4 +1,6 @@
 // How many contents have their home on one target, by a walk over the target's frames, and how many are missing. Inner.
+#![tactic(auto)]
+
 ghost use Rattle.std.specs.Prelude.{◌≡◌, ◌≤◌, ◌<◌};
 ghost use Rattle.lists.specs.Pick.{bit};
 ghost use Rattle.numbers.specs.Layouts.{Valid, frames};

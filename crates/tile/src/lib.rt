@@ -1,4 +1,6 @@
 // The permutation of a tile: which target each column of the tile lies on.
+#![tactic(auto)]
+
 ghost use Rattle.std.specs.Prelude.{◌≡◌, ◌*◌, ◌%◌, ◌^◌, ◌<◌, ◌≤◌, length};
 ghost use Rattle.lists.specs.Tabulate.{at};
 ghost use Rattle.tile.specs.Generator.{start_of, next_of, extra, begin_of, draw_of};
@@ -19,7 +21,7 @@ pub fn wrapping_mul(a: u64, b: u64) -> u64
     std::num::wrapping_add_u64(a0 * b0, cross * HALF)
 }
 
-#[derive(Drop)]
+#[derive(Clone, Copy)]
 pub struct Generator {
     pub state: u64,
 }

@@ -1,5 +1,7 @@
 // The lines of a recorded trace: whether a line has the form of an event, and the numbers that it tells. A line is lent with its newline. And lines of
 // fields, read and written, for every text that has such lines.
+#![tactic(auto)]
+
 ghost use Rattle.std.specs.Prelude.{◌≡◌, ◌≤◌, ◌+◌, length, take};
 ghost use Rattle.lists.specs.Put.{Put};
 ghost use Rattle.trace.specs.Fields.{fields_at, field_line, number_fields};

@@ -1,4 +1,6 @@
 // What the programs that are compared with `oracle/` share: the seeded draws, and how they print.
+#![tactic(auto)]
+
 ghost use Rattle.std.specs.Prelude.{◌<◌};
 
 use libc::STDOUT_FILENO;

@@ -1,5 +1,7 @@
 // Writing to a run of unit offsets of one group. The named data are stored first, each at its home; parity is then put at its own home at once,
 // from the bytes to write where those name every data unit, else from the data as they stand by then. What is missing is kept in a scratch.
+#![tactic(auto)]
+
 ghost use Rattle.std.specs.Prelude.{◌≡◌, ◌⊎◌, true, false, not, ℕ, ◌+◌, ◌-◌, ◌*◌, ◌<◌, ◌≤◌, length, get_or};
 ghost use Rattle.lists.specs.Pick.{pick};
 ghost use Rattle.lists.specs.Part.{within as withinRun};
@@ -206,7 +208,7 @@ fn keep(on: bool, x: u8) -> u8
 }
 
 // A row of coefficients in two: those of the data that are present, and those of the missing ones.
-#[derive(Drop)]
+#[derive(Clone, Copy)]
 pub struct Halves {
     pub present: [u8; 16],
     pub missing: [u8; 16],

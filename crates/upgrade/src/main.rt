@@ -1,5 +1,7 @@
 // A row upgraded to edition 2, and back: with all drives alive, with one dead and with it repaired, with bytes changed where
 // no read looks, and after going on in edition 2; a larger row likewise; then moves that are refused.
+#![tactic(auto)]
+
 use homes::Record;
 use numbers::Layout;
 use row_trial::{in_edition, no_failures, record_of, row, row_of, with_count};
