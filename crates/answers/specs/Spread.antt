@@ -5,8 +5,8 @@ use Rattle.std.proofs.Math.Nat.{mul-add-div, mul-add-mod_self_left}
 use Rattle.lists.specs.Digits.{div_below}
 use Rattle.lists.specs.Span.{Span, span_cong, span_join, span_to}
 use Rattle.lists.specs.Tabulate.{at, fill_step}
-use Rattle.hex.specs.Hex.{digit_at}
-use Rattle.hex.specs.Runs.{unit_from}
+use Rattle.hex_text.specs.Hex.{digit_at}
+use Rattle.hex_text.specs.Runs.{unit_from}
 
 -- 64 bytes of a text
 pub record Block (text : List ℕ) (from : ℕ) (block : List ℕ) : Type 0 where

@@ -4,7 +4,7 @@
 ghost use Rattle.std.specs.Prelude.{◌≡◌, ◌≤◌, ◌+◌, ◌*◌, length};
 ghost use Rattle.lists.specs.Span.{Span};
 ghost use Rattle.lists.specs.Put.{Put};
-ghost use Rattle.hex.specs.Runs.{unit_from};
+ghost use Rattle.hex_text.specs.Runs.{unit_from};
 ghost use Rattle.answers.specs.Decimal.{places as places_of, decimal};
 ghost use Rattle.answers.specs.Spread.{Block};
 
@@ -53,8 +53,8 @@ fn spread_bytes(text: &mut [u8], at: usize, size: usize)
     let mut to = at;
     while i < size {
         let b = text[begins + i];
-        text[to] = hex::hex_digit(b / 16 % 16);
-        text[to + 1] = hex::hex_digit(b % 16);
+        text[to] = hex_text::hex_digit(b / 16 % 16);
+        text[to + 1] = hex_text::hex_digit(b % 16);
         i += 1;
         to += 2;
     }
@@ -79,7 +79,7 @@ fn spread_block(text: &mut [u8], begins: usize, to: usize)
     ensures { Span (unit_from text.old begins to) to (to + 128) text.old text.new }
 {
     let block = block_at(text, begins);
-    hex::write_unit(&block, 0, 64, text, to);
+    hex_text::write_unit(&block, 0, 64, text, to);
 }
 
 // The same as `spread_bytes`, in blocks as far as they go: the digits of a block end where it ended, or before.

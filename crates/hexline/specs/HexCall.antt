@@ -14,8 +14,8 @@ use Rattle.numbers.specs.Refused.{validb, valid_of}
 use Rattle.place.specs.declared.Place.{Place}
 use Rattle.place.specs.Bytes.{spot_of}
 use Rattle.place.specs.ByteLaws.{spot-lt}
-use Rattle.hex.specs.Hex.{line_char}
-use Rattle.hex.specs.Runs.{line_from}
+use Rattle.hex_text.specs.Hex.{line_char}
+use Rattle.hex_text.specs.Runs.{line_from}
 use Rattle.hexline.specs.HexLine.{unit_byte, hex_refusal, hex_line}
 
 -- what an accepted call knows

@@ -8,12 +8,12 @@ use Rattle.lists.specs.Refusal.{grant_yes}
 use Rattle.numbers.specs.declared.Layout.{Layout}
 use Rattle.numbers.specs.Layouts.{frames}
 use Rattle.numbers.specs.Shapes.{layout_products}
-use Rattle.hex.specs.Hex.{hex_digit, digit_at, line_char}
+use Rattle.hex_text.specs.Hex.{hex_digit, digit_at, line_char}
 use Rattle.hexline.specs.HexLine.{unit_byte, hex_refusal, hex_line}
-use Rattle.hex.specs.HexChars.{char_target, char_frame}
-use Rattle.hex.specs.CharLaws.{char_digit}
-use Rattle.hex.specs.Digit.{digit_value}
-use Rattle.hex.specs.DigitLaws.{digit_value_lem}
+use Rattle.hex_text.specs.HexChars.{char_target, char_frame}
+use Rattle.hex_text.specs.CharLaws.{char_digit}
+use Rattle.hex_text.specs.Digit.{digit_value}
+use Rattle.hex_text.specs.DigitLaws.{digit_value_lem}
 use Rattle.hexline.specs.HexCall.{accepted_line}
 
 -- ---- digits

@@ -6,7 +6,7 @@ use Rattle.numbers.specs.declared.Layout.{Layout}
 use Rattle.numbers.specs.Layouts.{frames, image_length}
 use Rattle.numbers.specs.Refused.{validb}
 use Rattle.place.specs.Bytes.{spot_of}
-use Rattle.hex.specs.Hex.{line_char}
+use Rattle.hex_text.specs.Hex.{line_char}
 
 -- byte o of the unit in a frame of a target
 unfoldable pub unit_byte : Layout → List ℕ → ℕ → ℕ → ℕ → ℕ

@@ -44,6 +44,6 @@ pub fn hex_line(y: Layout, image: &[u8], target: u64, frame: u64, line: &mut [u8
         target: target,
     };
     let begins = place::spot_of(y, numbers::shape_of(y), here, 0);
-    hex::write_line(image, begins as usize, y.u as usize, target, frame, line, 0);
+    hex_text::write_line(image, begins as usize, y.u as usize, target, frame, line, 0);
     0
 }

@@ -13,8 +13,8 @@ use Rattle.lists.specs.Span.{Span, span_none, span_join, span_to}
 use Rattle.lists.specs.Tabulate.{at, tabulated}
 use Rattle.numbers.specs.declared.Layout.{Layout}
 use Rattle.numbers.specs.Layouts.{image_length}
-use Rattle.hex.specs.Line.{line_right, byte_at}
-use Rattle.hex.specs.Runs.{bytes_from}
+use Rattle.hex_text.specs.Line.{line_right, byte_at}
+use Rattle.hex_text.specs.Runs.{bytes_from}
 use Rattle.pool_text.specs.declared.Line.{Line}
 use Rattle.pool_text.specs.Text.{line_length, line_count, text_length}
 use Rattle.pool_text.specs.Reading.{right_at, text_right, first_wrong, text_byte, text_image}

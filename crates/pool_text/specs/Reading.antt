@@ -5,7 +5,7 @@ use Rattle.lists.specs.Search.{all, lowest}
 use Rattle.lists.specs.Tabulate.{tabulate}
 use Rattle.numbers.specs.declared.Layout.{Layout}
 use Rattle.numbers.specs.Layouts.{image_length}
-use Rattle.hex.specs.Line.{line_right, byte_at}
+use Rattle.hex_text.specs.Line.{line_right, byte_at}
 use Rattle.pool_text.specs.Text.{line_length, line_count, text_length, line_target, line_frame}
 
 -- line i of the text is the line of its target and frame, with any bytes

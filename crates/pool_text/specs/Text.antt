@@ -3,7 +3,7 @@ use Rattle.std.specs.Prelude.{◌≡◌, List, ℕ, ◌+◌, ◌*◌, ◌/◌, �
 use Rattle.lists.specs.Tabulate.{at, tabulate}
 use Rattle.numbers.specs.declared.Layout.{Layout}
 use Rattle.numbers.specs.Layouts.{frames, image_length}
-use Rattle.hex.specs.Hex.{line_char}
+use Rattle.hex_text.specs.Hex.{line_char}
 use Rattle.hexline.specs.HexLine.{unit_byte, hex_line}
 
 -- "11+2U bytes" a line; a line for each of the L-as-T frames of each of the P targets

@@ -8,9 +8,9 @@ use Rattle.lists.specs.Digits.{div_of, mod_of}
 use Rattle.lists.specs.Span.{Span, span_none, span_join, span_to}
 use Rattle.lists.specs.Tabulate.{at, tabulated}
 use Rattle.numbers.specs.declared.Layout.{Layout}
-use Rattle.hex.specs.Hex.{line_char}
-use Rattle.hex.specs.Runs.{line_from}
-use Rattle.hex.specs.LineLaws.{line_ext}
+use Rattle.hex_text.specs.Hex.{line_char}
+use Rattle.hex_text.specs.Runs.{line_from}
+use Rattle.hex_text.specs.LineLaws.{line_ext}
 use Rattle.pool_text.specs.declared.Line.{Line}
 use Rattle.pool_text.specs.Text.{line_length, line_count, text_length, line_target, line_frame, pool_char, text_char, pool_text}
 use Rattle.pool_text.specs.Places.{unit_byte_lem, next_start}

@@ -89,7 +89,7 @@ fn write_lines(y: Layout, frames: u64, image: &[u8], text: &mut [u8])
     let lines = y.p * frames;
     let mut here = first_line(y);
     while here.i < lines {
-        hex::write_line(
+        hex_text::write_line(
             image,
             here.begins,
             y.u as usize,
@@ -135,7 +135,7 @@ fn read_lines(y: Layout, frames: u64, text: &[u8], image: &mut [u8]) -> u64
         if text.len() - here.at < 11 + 2 * u {
             return number;
         }
-        if !hex::read_line(
+        if !hex_text::read_line(
             text,
             here.at,
             here.target,

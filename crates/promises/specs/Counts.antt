@@ -32,7 +32,7 @@ use Rattle.pool.specs.CountLaws as C
 use Rattle.pool.specs.FrameCount.{on_target_by_frames}
 use Rattle.pool_list.specs.Ranges.{range_offset, range_bytes, list_refusal, list_range, after_ranges, list_image}
 use Rattle.pool_look.specs.Shown.{shown_at}
-use Rattle.hex.specs.Hex.{hex_of}
+use Rattle.hex_text.specs.Hex.{hex_of}
 use Rattle.trace.specs.Told.{Told, malformed, told_write, told_fail, told_repair, told_read}
 use Rattle.answers.specs.Decimal.{decimal, printed}
 use Rattle.replay_line.specs.Play.{played_record, played_image, answer_of}

@@ -10,7 +10,7 @@ use Rattle.numbers.specs.declared.Layout.{Layout}
 use Rattle.numbers.specs.Layouts.{Valid, capacity, image_length}
 use Rattle.numbers.specs.Refused.{no_layout}
 use Rattle.homes.specs.declared.Record.{Record}
-use Rattle.hex.specs.Hex.{hex_of}
+use Rattle.hex_text.specs.Hex.{hex_of}
 use Rattle.pool.specs.Refusals.{range_refusal}
 use Rattle.pool.specs.Files.{part}
 use Rattle.pool.specs.Calls.{Reads, Writes, Fails, Repairs}

@@ -54,8 +54,8 @@ use Rattle.pool.specs.Storing.{owner, cell_after, storing}
 use Rattle.pool.specs.Writing.{touched, writes, laid, write_image}
 use Rattle.pool.specs.Failing.{fail_record}
 use Rattle.pool.specs.Repairing.{repair_image, repair_record, repair_count}
-use Rattle.hex.specs.Hex.{hex_digit, hex_of}
-use Rattle.hex.specs.Digit.{is_digit, digit_value, number_at}
+use Rattle.hex_text.specs.Hex.{hex_digit, hex_of}
+use Rattle.hex_text.specs.Digit.{is_digit, digit_value, number_at}
 use Rattle.trace.specs.Fields.{fields_at}
 use Rattle.trace.specs.Forms.{is_layout, layout_at, form_of, kind_of, bytes_of}
 use Rattle.trace.specs.Told.{told_as, told_of}

@@ -6,8 +6,8 @@ use Rattle.lists.specs.Search.{all}
 use Rattle.lists.specs.Tabulate.{tabulate}
 use Rattle.numbers.specs.declared.Layout.{Layout}
 use Rattle.numbers.specs.Refused.{validb, no_layout}
-use Rattle.hex.specs.Hex.{hex_digit, digits_of}
-use Rattle.hex.specs.Digit.{is_digit, digit_value, number_at}
+use Rattle.hex_text.specs.Hex.{hex_digit, digits_of}
+use Rattle.hex_text.specs.Digit.{is_digit, digit_value, number_at}
 use Rattle.trace.specs.Fields.{fields_at, field_line}
 use Rattle.trace.specs.Forms.{layout_at}
 use Rattle.line_cursor.specs.Lines.{lines_of}

@@ -8,9 +8,9 @@ use Rattle.numbers.specs.declared.Layout.{Layout}
 use Rattle.numbers.specs.Gcd.{gcd, gcd_in, lcm}
 use Rattle.numbers.specs.Layouts.{block, rows}
 use Rattle.place.specs.Bytes.{spot_of}
-use Rattle.hex.specs.Hex.{hex_digit, line_char}
-use Rattle.hex.specs.Digit.{is_digit, digit_value}
-use Rattle.hex.specs.Line.{char_right, line_right}
+use Rattle.hex_text.specs.Hex.{hex_digit, line_char}
+use Rattle.hex_text.specs.Digit.{is_digit, digit_value}
+use Rattle.hex_text.specs.Line.{char_right, line_right}
 use Rattle.hexline.specs.HexLine.{unit_byte}
 use Rattle.pool_text.specs.Text.{pool_char, pool_text}
 use Rattle.pool_text.specs.Reading.{text_right, first_wrong, text_byte, text_image}

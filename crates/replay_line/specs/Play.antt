@@ -5,7 +5,7 @@ use Rattle.lists.specs.Refusal.{refusal_by, grant}
 use Rattle.lists.specs.Tabulate.{zeros}
 use Rattle.numbers.specs.declared.Layout.{Layout}
 use Rattle.homes.specs.declared.Record.{Record}
-use Rattle.hex.specs.Hex.{hex_of}
+use Rattle.hex_text.specs.Hex.{hex_of}
 use Rattle.pool.specs.Refusals.{range_refusal, fail_refusal, repair_refusal}
 use Rattle.pool.specs.Reading.{read_out}
 use Rattle.pool.specs.Writing.{write_image}

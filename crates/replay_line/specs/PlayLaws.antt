@@ -7,10 +7,10 @@ use Rattle.numbers.specs.declared.Layout.{Layout}
 use Rattle.numbers.specs.Layouts.{Valid, width, groups, rows, capacity, image_length}
 use Rattle.numbers.specs.Shapes.{width-groups-rows}
 use Rattle.homes.specs.declared.Record.{Record}
-use Rattle.hex.specs.Digit.{number_at}
-use Rattle.hex.specs.Hex.{hex_of}
-use Rattle.hex.specs.Line.{byte_at}
-use Rattle.hex.specs.Runs.{bytes_from}
+use Rattle.hex_text.specs.Digit.{number_at}
+use Rattle.hex_text.specs.Hex.{hex_of}
+use Rattle.hex_text.specs.Line.{byte_at}
+use Rattle.hex_text.specs.Runs.{bytes_from}
 use Rattle.pool.specs.Asked.{range_asked}
 use Rattle.pool.specs.Refusals.{range_refusal, fail_refusal, repair_refusal}
 use Rattle.pool.specs.Reading.{read_out}

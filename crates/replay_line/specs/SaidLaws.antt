@@ -13,8 +13,8 @@ use Rattle.homes.specs.declared.Record.{Record}
 use Rattle.pool.specs.Refusals.{range_refusal}
 use Rattle.pool.specs.Reading.{read_out}
 use Rattle.pool.specs.Calls.{Reads}
-use Rattle.hex.specs.Hex.{digit_at, hex_of}
-use Rattle.hex.specs.Runs.{unit_from}
+use Rattle.hex_text.specs.Hex.{digit_at, hex_of}
+use Rattle.hex_text.specs.Runs.{unit_from}
 use Rattle.answers.specs.Decimal.{tenths, places, decimal, printed}
 use Rattle.answers.specs.DecimalLaws.{decimal-length, places-few}
 use Rattle.replay_line.specs.Said.{Said}

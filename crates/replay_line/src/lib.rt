@@ -3,8 +3,8 @@
 #![tactic(auto)]
 
 ghost use Rattle.std.specs.Prelude.{◌≡◌, ◌≤◌, ◌+◌, ◌*◌, [], ◌∷◌, length};
-ghost use Rattle.hex.specs.Digit.{number_at};
-ghost use Rattle.hex.specs.Hex.{hex_of};
+ghost use Rattle.hex_text.specs.Digit.{number_at};
+ghost use Rattle.hex_text.specs.Hex.{hex_of};
 ghost use Rattle.pool.specs.Refusals.{range_refusal, fail_refusal, repair_refusal};
 ghost use Rattle.pool.specs.Reading.{read_out};
 ghost use Rattle.pool.specs.Writing.{write_image};
@@ -129,8 +129,8 @@ fn play_write(y: Layout, r: Record, image: &mut [u8], line: &[u8], answer: &mut 
 {
     let mut bytes = [0u8; 4140];
     let count = trace::byte_count(line);
-    hex::tell_bytes(line, 20, &mut bytes, 0, count);
-    let offset = hex::number_at(line, 3, 16);
+    hex_text::tell_bytes(line, 20, &mut bytes, 0, count);
+    let offset = hex_text::number_at(line, 3, 16);
     let number = pool_write::write(y, r, image, offset, &bytes[..count]);
     say(number, answer)
 }
@@ -140,7 +140,7 @@ fn play_fail(y: Layout, r: Record, image: &[u8], line: &[u8], answer: &mut [u8])
     ensures { (result.refusal ≡ 0) × (result.rec ≡ fail_record y r (length image.now) (number_at line.now 3 2))
         × Said (printed (fail_refusal y r (length image.now) (number_at line.now 3 2)) []) answer.old result.length answer.new }
 {
-    let target = hex::number_at(line, 3, 2);
+    let target = hex_text::number_at(line, 3, 2);
     let failed = pool_fail::fail(y, r, image, target);
     let rec = failed.rec;
     let length = say(failed.refusal, answer);
@@ -181,8 +181,8 @@ fn play_read(y: Layout, r: Record, image: &[u8], line: &[u8], answer: &mut [u8])
     ensures { Said (printed (range_refusal y r (length image.now) (number_at line.now 3 16) (number_at line.now 20 16))
         (32 ∷ hex_of (read_out y r image.now (number_at line.now 3 16) (number_at line.now 20 16)))) answer.old result answer.new }
 {
-    let offset = hex::number_at(line, 3, 16);
-    let size = hex::number_at(line, 20, 16) as usize;
+    let offset = hex_text::number_at(line, 3, 16);
+    let size = hex_text::number_at(line, 20, 16) as usize;
     let refusal = checks::range_refusal(y, r, image.len(), offset, size);
     if refusal != 0 {
         return say(refusal, answer);

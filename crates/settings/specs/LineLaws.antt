@@ -12,8 +12,8 @@ use Rattle.lists.specs.Tabulate.{at}
 use Rattle.numbers.specs.declared.Layout.{Layout}
 use Rattle.numbers.specs.Layouts.{Valid}
 use Rattle.numbers.specs.Refused.{validb, layout_refusal, valid_of, valid_true, accepts, refuses}
-use Rattle.hex.specs.Digit.{number_at}
-use Rattle.hex.specs.NumberLaws.{number_fits}
+use Rattle.hex_text.specs.Digit.{number_at}
+use Rattle.hex_text.specs.NumberLaws.{number_fits}
 use Rattle.trace.specs.Fields.{fields_at, numbers_at, field_line, number_fields}
 use Rattle.trace.specs.FieldLaws.{end_of, fields_length, fields_ended}
 use Rattle.trace.specs.FieldLines.{Fit, numbers_told, numbers_written, numbers_long, fields_newline_last}

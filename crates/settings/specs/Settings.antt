@@ -7,7 +7,7 @@ use Rattle.std.specs.Prelude.{Bool, true, List, [], ◌∷◌, ◌++◌, ℕ, le
 use Rattle.lists.specs.Pick.{pick, both}
 use Rattle.numbers.specs.declared.Layout.{Layout}
 use Rattle.numbers.specs.Refused.{validb}
-use Rattle.hex.specs.Digit.{number_at}
+use Rattle.hex_text.specs.Digit.{number_at}
 use Rattle.trace.specs.Fields.{fields_at, field_line, number_fields}
 use Rattle.trace.specs.Forms.{layout_fields, layout_at}
 

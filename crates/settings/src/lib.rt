@@ -53,7 +53,7 @@ fn has_form(line: &[u8]) -> bool
     if line.len() < 3 {
         return false;
     }
-    let version = hex::number_at(line, 0, 2);
+    let version = hex_text::number_at(line, 0, 2);
     if !is_version(version) {
         return false;
     }
@@ -65,8 +65,8 @@ fn edition_of(line: &[u8]) -> u64
     requires { has_form line.now ≡ true }
     ensures { result ≡ edition_of line.now }
 {
-    if hex::number_at(line, 0, 2) == 2 {
-        return hex::number_at(line, 41, 2);
+    if hex_text::number_at(line, 0, 2) == 2 {
+        return hex_text::number_at(line, 41, 2);
     }
     1
 }

@@ -8,7 +8,7 @@ use Rattle.std.proofs.Math.ListN.{drop, get_or-eq_default}
 use Rattle.std.proofs.Math.Seq.{get_or-take}
 use Rattle.lists.specs.Pick.{pick, pick_true, pick-false, both, both_true, both_off, equal_or_not}
 use Rattle.lists.specs.Tabulate.{at}
-use Rattle.hex.specs.Digit.{digits_at}
+use Rattle.hex_text.specs.Digit.{digits_at}
 use Rattle.trace.specs.Fields.{separator, fields_at}
 
 -- what follows a field, by whether it is the last

@@ -13,10 +13,10 @@ use Rattle.lists.specs.Part.{within}
 use Rattle.lists.specs.Search.{all-at, all_true}
 use Rattle.lists.specs.Put.{Put, put_none, put_one, put_join}
 use Rattle.lists.specs.Tabulate.{at}
-use Rattle.hex.specs.Hex.{digit_at, digits_of}
-use Rattle.hex.specs.Digit.{is_digit, digits_at, number_at}
-use Rattle.hex.specs.DigitLaws.{digit_is}
-use Rattle.hex.specs.DigitsLaws.{number_digits, digits_number, length_digits, digits_at_lem}
+use Rattle.hex_text.specs.Hex.{digit_at, digits_of}
+use Rattle.hex_text.specs.Digit.{is_digit, digits_at, number_at}
+use Rattle.hex_text.specs.DigitLaws.{digit_is}
+use Rattle.hex_text.specs.DigitsLaws.{number_digits, digits_number, length_digits, digits_at_lem}
 use Rattle.trace.specs.Fields.{separator, fields_at, numbers_at, field_line, number_fields}
 use Rattle.trace.specs.FieldLaws.{after, last_is, end_of, fields_length}
 

@@ -2,8 +2,8 @@
 use Rattle.std.specs.Prelude.{Bool, List, [], ◌∷◌, ◌++◌, map, ℕ, ◌+◌, eqb, length}
 use Rattle.lists.specs.Pick.{both}
 use Rattle.lists.specs.Tabulate.{at}
-use Rattle.hex.specs.Hex.{digits_of}
-use Rattle.hex.specs.Digit.{digits_at, number_at}
+use Rattle.hex_text.specs.Hex.{digits_of}
+use Rattle.hex_text.specs.Digit.{digits_at, number_at}
 
 -- what follows a field, by the fields that are left: a space (32), or after the last a newline (10)
 abbrev pub separator : List ℕ → ℕ

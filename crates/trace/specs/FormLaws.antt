@@ -11,7 +11,7 @@ use borrow.Author.Tests.{ne_eqb, eqb-true, lt-leb, le-leb, leb-true}
 use Rattle.lists.specs.Pick.{pick, pick_true, pick-false, both, both_true, both_off, either_way, clash, not-both_ways}
 use Rattle.lists.specs.Part.{within}
 use Rattle.lists.specs.Tabulate.{at}
-use Rattle.hex.specs.Digit.{digit_value, digits_at, number_at}
+use Rattle.hex_text.specs.Digit.{digit_value, digits_at, number_at}
 use Rattle.trace.specs.Fields.{separator, fields_at}
 use Rattle.trace.specs.FieldLaws.{fields_length, fields_first, fields_ended}
 use Rattle.trace.specs.Forms.{byte_count, form_of, kind_of}

@@ -10,8 +10,8 @@ use Rattle.std.specs.Prelude.{Bool, List, [], ◌∷◌, ℕ, ◌+◌, ◌*◌, 
 use Rattle.lists.specs.Pick.{pick, both}
 use Rattle.lists.specs.Tabulate.{tabulate}
 use Rattle.numbers.specs.declared.Layout.{Layout}
-use Rattle.hex.specs.Digit.{number_at}
-use Rattle.hex.specs.Line.{byte_at}
+use Rattle.hex_text.specs.Digit.{number_at}
+use Rattle.hex_text.specs.Line.{byte_at}
 use Rattle.trace.specs.Fields.{fields_at}
 
 -- ---- the first line

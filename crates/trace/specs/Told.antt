@@ -3,9 +3,9 @@ use Rattle.std.proofs.Common.{sym, subst}
 use Rattle.std.specs.Prelude.{List, ℕ, ◌+◌, ◌*◌, ◌<◌, eqb, length}
 use Rattle.lists.specs.Pick.{pick}
 use Rattle.lists.specs.Tabulate.{at, get_d_tabulate, length-tabulate}
-use Rattle.hex.specs.Digit.{number_at}
-use Rattle.hex.specs.Line.{byte_at}
-use Rattle.hex.specs.DigitLaws.{told-lt}
+use Rattle.hex_text.specs.Digit.{number_at}
+use Rattle.hex_text.specs.Line.{byte_at}
+use Rattle.hex_text.specs.DigitLaws.{told-lt}
 use Rattle.trace.specs.Forms.{byte_count, kind_of, bytes_of}
 
 -- the bytes of a write are bytes, whatever the line is

@@ -4,7 +4,7 @@ use Rattle.std.proofs.Math.Path.{refl, ap}
 use Rattle.std.proofs.Common.{sym, ◌∙◌}
 use borrow.Author.Tests.{ne_eqb}
 use Rattle.lists.specs.Tabulate.{at}
-use Rattle.hex.specs.Digit.{number_at}
+use Rattle.hex_text.specs.Digit.{number_at}
 use Rattle.trace.specs.Forms.{kind_of, bytes_of}
 use Rattle.trace.specs.FormLaws.{kind_long, kind_unended}
 use Rattle.trace.specs.Told.{bytes_small, malformed, told_write, told_fail, told_repair, told_read, told_as, told_of}

@@ -1,6 +1,6 @@
 -- An event written as a line of a trace: the lines that `Forms` tells apart.
 use Rattle.std.specs.Prelude.{List, [], ◌∷◌, ℕ, ◌≤◌, ◌<◌, length}
-use Rattle.hex.specs.Hex.{digits_of, hex_of}
+use Rattle.hex_text.specs.Hex.{digits_of, hex_of}
 use Rattle.trace.specs.Fields.{field_line}
 use Rattle.trace.specs.Told.{Told, malformed, told_write, told_fail, told_repair, told_read}
 

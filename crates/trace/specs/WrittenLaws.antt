@@ -10,11 +10,11 @@ use Rattle.lists.specs.Pick.{equal_or_not}
 use Rattle.lists.specs.Search.{all-at}
 use Rattle.lists.specs.Digits.{div_of, mod_of}
 use Rattle.lists.specs.Tabulate.{at, length-tabulate, get_d_tabulate, tabulated}
-use Rattle.hex.specs.Hex.{digit_at, digits_of, hex_of}
-use Rattle.hex.specs.Digit.{is_digit, digit_value, digits_at, number_at}
-use Rattle.hex.specs.Line.{byte_at}
-use Rattle.hex.specs.DigitLaws.{digit_is, byte_told, told_high, told-low}
-use Rattle.hex.specs.NumberLaws.{number_lt, number_fits}
+use Rattle.hex_text.specs.Hex.{digit_at, digits_of, hex_of}
+use Rattle.hex_text.specs.Digit.{is_digit, digit_value, digits_at, number_at}
+use Rattle.hex_text.specs.Line.{byte_at}
+use Rattle.hex_text.specs.DigitLaws.{digit_is, byte_told, told_high, told-low}
+use Rattle.hex_text.specs.NumberLaws.{number_lt, number_fits}
 use Rattle.trace.specs.Fields.{fields_at, field_line}
 use Rattle.trace.specs.FieldLaws.{end_of, fields_length}
 use Rattle.trace.specs.FieldLines.{Each, Digital, Stands, line_fields, split_field, fields_line, digital_digits, stands_number, number_stands}

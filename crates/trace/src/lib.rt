@@ -32,7 +32,7 @@ pub fn has_fields(line: &[u8], from: usize, widths: [usize; 8], n: usize) -> boo
         if line.len() - at <= w {
             return false;
         }
-        if !hex::is_digits(line, at, w) {
+        if !hex_text::is_digits(line, at, w) {
             return false;
         }
         i += 1;
@@ -59,7 +59,7 @@ pub fn write_fields(
     let mut i = 0;
     while i < n {
         let w = widths[i];
-        hex::write_number(numbers[i], w, text, to);
+        hex_text::write_number(numbers[i], w, text, to);
         i += 1;
         text[to + w] = separator(i == n);
         to += w + 1;
@@ -107,7 +107,7 @@ pub fn kind_of(line: &[u8]) -> u64
     if line.len() < 3 {
         return 0;
     }
-    let kind = hex::number_at(line, 0, 2);
+    let kind = hex_text::number_at(line, 0, 2);
     if has_form(line, kind) {
         return kind;
     }
@@ -127,12 +127,12 @@ pub fn layout_at(line: &[u8], from: usize) -> Layout
     ensures { result ≡ layout_at line.now from }
 {
     Layout {
-        n: hex::number_at(line, from, 2),
-        k: hex::number_at(line, from + 3, 2),
-        p: hex::number_at(line, from + 6, 2),
-        u: hex::number_at(line, from + 9, 4),
-        t: hex::number_at(line, from + 14, 6),
-        cookie: hex::number_at(line, from + 21, 16),
+        n: hex_text::number_at(line, from, 2),
+        k: hex_text::number_at(line, from + 3, 2),
+        p: hex_text::number_at(line, from + 6, 2),
+        u: hex_text::number_at(line, from + 9, 4),
+        t: hex_text::number_at(line, from + 14, 6),
+        cookie: hex_text::number_at(line, from + 21, 16),
         edition: 1,
     }
 }

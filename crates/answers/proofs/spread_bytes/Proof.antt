@@ -5,9 +5,9 @@ use borrow.Author.Rules.{rules}
 use native.Mathlib.Omega.{arith}
 use lib.ListN.{length-set}
 use Rattle.lists.specs.Span.{Span, span_none, span_to}
-use Rattle.hex.specs.Hex.{hex_digit}
-use Rattle.hex.specs.Runs.{unit_from}
-use Rattle.hex.specs.RunLaws.{unit_turn}
+use Rattle.hex_text.specs.Hex.{hex_digit}
+use Rattle.hex_text.specs.Runs.{unit_from}
+use Rattle.hex_text.specs.RunLaws.{unit_turn}
 use Rattle.answers.proofs.spread_bytes.Statement.{statement}
 use Rattle.answers.proofs.spread_bytes.Tie as tie
 

@@ -4,7 +4,7 @@ use mathlib.Core.Path.{◌≡◌, refl, ◌∙◌}
 use borrow.Author.Rules.{rules}
 use native.Mathlib.Omega.{arith}
 use Rattle.lists.specs.Span.{Span, span_none, span_to}
-use Rattle.hex.specs.Runs.{unit_from}
+use Rattle.hex_text.specs.Runs.{unit_from}
 use Rattle.answers.specs.Spread.{spread_more}
 use Rattle.answers.proofs.spread_hex.Statement.{statement}
 use Rattle.answers.proofs.spread_hex.Tie as tie

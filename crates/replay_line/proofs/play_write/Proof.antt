@@ -3,7 +3,7 @@ use Prim.Native.Nat.{ℕ, ◌*◌}
 use mathlib.Core.Path.{sym, ap, ◌∙◌}
 use native.Mathlib.Omega.{arith}
 use lib.Seq.{length-take-le}
-use Rattle.hex.specs.Digit.{digits_at}
+use Rattle.hex_text.specs.Digit.{digits_at}
 use Rattle.trace.specs.FormLaws.{write_length, write_digits}
 use Rattle.replay_line.specs.PlayLaws.{bytes_read, write_said}
 use borrow.Author.Rules.{rules}

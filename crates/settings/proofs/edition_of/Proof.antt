@@ -4,7 +4,7 @@ use lib.Dec.{eqb}
 use borrow.Author.Tests.{eq-eqb, ne_eqb}
 use native.Mathlib.Omega.{arith}
 use Rattle.lists.specs.Pick.{pick_true, pick-false}
-use Rattle.hex.specs.Digit.{number_at}
+use Rattle.hex_text.specs.Digit.{number_at}
 use Rattle.settings.specs.Settings.{version_of}
 use Rattle.settings.specs.LineLaws.{form_room, form_second}
 use Rattle.settings.proofs.edition_of.Statement.{statement}

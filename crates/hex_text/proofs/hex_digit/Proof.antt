@@ -1,0 +1,23 @@
+-- `hex_text::hex_digit` meets its contract: each return is the arm that its test picks.
+use borrow.Author.Rules.{rules}
+use borrow.Author.Tests.{lt-ltb, le-ltb}
+use Rattle.hex_text.specs.Hex.{hex_digit}
+use Rattle.hex_text.proofs.hex_digit.Statement.{statement}
+use Rattle.hex_text.proofs.hex_digit.Tie as tie
+
+add-result : tie.Need-overflow-add-result
+add-result c = search rules
+
+returns : tie.Need-returns
+unfolding hex_digit
+returns c = simp (lt-ltb _ _ c.if1.true)
+
+add-result-2 : tie.Need-overflow-add-result-2
+add-result-2 c = search rules
+
+returns-2 : tie.Need-returns-2
+unfolding hex_digit
+returns-2 c = simp (le-ltb _ _ c.if1.false)
+
+pub hex-digit-spec : {M : Type 1} → statement M
+hex-digit-spec = tie.close (tie.spec add-result returns add-result-2 returns-2)

@@ -1,0 +1,10 @@
+use Rattle.std.proofs.Common.{◌≡◌, ℕ, ◌-◌, ◌<◌, ◌≤◌, arith, rules, below_none, below_more}
+use Rattle.lists.specs.Tabulate.{at}
+use Rattle.tile.specs.Stores.{column-found, column_somewhere}
+use Rattle.tile.proofs.column_of.Given as goal
+
+abbrev pub invariant-loop-column : goal.invariant-loop-column
+invariant-loop-column l = (l.column ≤ 64) × ((k : ℕ) → k < l.column → at l.a k ≡ l.t → ⊥)
+
+abbrev pub decreases-loop-column : goal.decreases-loop-column
+decreases-loop-column l = 64 - l.column

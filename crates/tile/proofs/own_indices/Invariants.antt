@@ -1,0 +1,10 @@
+use Rattle.std.proofs.Common.{◌≡◌, ℕ, ◌-◌, ◌<◌, ◌≤◌, length, refl, ◌∙◌, arith, length-set, rules, below_none}
+use Rattle.lists.specs.Tabulate.{at, tabulated, fill_step}
+use Rattle.tile.specs.Permutation.{own}
+use Rattle.tile.proofs.own_indices.Given as goal
+
+abbrev pub invariant-loop-t : goal.invariant-loop-t
+invariant-loop-t l = (l.t ≤ 64) × (length l.a ≡ 64) × ((k : ℕ) → k < l.t → at l.a k ≡ k)
+
+abbrev pub decreases-loop-t : goal.decreases-loop-t
+decreases-loop-t l = 64 - l.t
