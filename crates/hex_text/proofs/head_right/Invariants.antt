@@ -1,0 +1,15 @@
+use Prim.Native.Nat.{ℕ, ◌+◌, ◌-◌, ◌≤◌, ◌<◌}
+use mathlib.Core.Path.{◌≡◌, sym, ◌∙◌}
+use borrow.Author.Rules.{rules}
+use borrow.Author.Count.{below_none, below_more}
+use native.Mathlib.Omega.{arith}
+use lib.ListN.{get_or}
+use Rattle.hex_text.specs.Runs.{head_of}
+use Rattle.hex_text.specs.RunLaws.{heads_yes, heads_no}
+use Rattle.hex_text.proofs.head_right.Given as goal
+
+abbrev pub invariant-loop-j : goal.invariant-loop-j
+invariant-loop-j l = (l.j ≤ 10) × ((k : ℕ) → k < l.j → get_or l.text (l.at + k) 0 ≡ head_of l.target l.frame k)
+
+abbrev pub decreases-loop-j : goal.decreases-loop-j
+decreases-loop-j l = 10 - l.j

@@ -1,0 +1,15 @@
+use Prim.Native.Nat.{◌+◌, ◌-◌, ◌≤◌}
+use mathlib.Core.Path.{◌∙◌, ap}
+use borrow.Author.Rules.{rules}
+use native.Mathlib.Omega.{arith}
+use Rattle.lists.specs.Span.{Span, span_none, span_to}
+use Rattle.hex_text.specs.Runs.{bytes_from}
+use Rattle.hex_text.specs.Tell.{told_by}
+use Rattle.hex_text.specs.TellLaws.{tell_turn}
+use Rattle.hex_text.proofs.tell_rest.Given as goal
+
+abbrev pub invariant-loop-o : goal.invariant-loop-o
+invariant-loop-o l = (l.o ≤ l.u) × Span (bytes_from l.text l.from l.begins) l.begins (l.begins + l.o) l.initial.image l.image
+
+abbrev pub decreases-loop-o : goal.decreases-loop-o
+decreases-loop-o l = l.u - l.o
