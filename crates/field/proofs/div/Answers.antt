@@ -1,5 +1,4 @@
 -- `field::div`, from the contracts of its two calls.
-use borrow.Author.Rules.{rules}
 use Rattle.field.specs.Byte.{div}
 use Rattle.field.proofs.div.Goals as goal
 

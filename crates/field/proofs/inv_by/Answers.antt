@@ -1,7 +1,6 @@
 -- `field::inv_by`. Of 0 by `inv-zero`, of others by their exponent (`inv-power`).
 use mathlib.Core.Path.{sym, ap, ◌∙◌}
 use native.Mathlib.Nat.{le_of_lt}
-use borrow.Author.Rules.{rules}
 use Rattle.field.specs.Byte.{inv}
 use Rattle.field.specs.Powers.{inv-power, inv-zero}
 use Rattle.field.proofs.inv_by.Goals as goal

@@ -1,7 +1,6 @@
 -- `field::mul_by`. A factor 0 by `zero-mul` and `mul-zero`, others by their exponents (`mul_powers`).
 use mathlib.Core.Path.{sym, ap, ◌∙◌}
 use Prim.Native.Nat.{ℕ}
-use borrow.Author.Rules.{rules}
 use Rattle.field.specs.Byte.{mul}
 use Rattle.field.specs.Laws.{zero-mul, mul-zero}
 use Rattle.field.specs.Powers.{mul_powers}

@@ -1,5 +1,4 @@
 -- `field::power_of`. The table's rule at one entry.
-use borrow.Author.Rules.{rules}
 use Rattle.field.proofs.power_of.Goals as goal
 
 pub returns : goal.returns
