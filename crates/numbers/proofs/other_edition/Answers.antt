@@ -1,6 +1,5 @@
 -- `numbers::other_edition` meets its contract: the definition, field by field.
 use mathlib.Core.Path.{refl}
-use borrow.Author.Rules.{rules}
 use Rattle.numbers.specs.Editions.{other_edition}
 use Rattle.numbers.proofs.other_edition.Goals as goal
 

@@ -1,7 +1,6 @@
 -- `numbers::refusal` meets its contract: each early return contradicts one bound, and the last has them all.
 use mathlib.Core.Path.{sym}
 use native.Mathlib.Omega.{arith}
-use borrow.Author.Rules.{rules}
 use Rattle.numbers.specs.Refused.{accepts, refuses}
 use Rattle.numbers.proofs.refusal.Goals as goal
 

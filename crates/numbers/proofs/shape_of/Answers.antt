@@ -3,7 +3,6 @@ use mathlib.Core.Path.{◌≡◌, sym, subst}
 use Prim.Native.Nat.{ℕ, ◌*◌, ◌/◌, ◌≤◌, ◌<◌}
 use native.Mathlib.Nat.{mul-le-mul, div-le_self}
 use native.Mathlib.Omega.{arith}
-use borrow.Author.Rules.{rules}
 use Rattle.numbers.specs.Gcd.{gcd, gcd_pos, lcm}
 use Rattle.numbers.specs.Layouts.{width, block, rows, groups}
 use Rattle.numbers.specs.Answers.{Shaped, shape_of, shaped}
