@@ -1,6 +1,5 @@
 -- `entries::answer` meets its contract: each return is the arm that its tests pick.
 -- each arm, on values
-use borrow.Author.Tests.{not-true, not-false}
 use mathlib.Core.Path.{◌≡◌}
 use mathlib.Core.Bool.{true, false}
 use Rattle.entries.specs.declared.Look.{Look}
@@ -22,10 +21,10 @@ unfolding answer_of
 held x s f = simp (s, f)
 
 pub returns-then-not-sound : goal.returns-then-not-sound
-returns-then-not-sound c = bad _ (not-true _ c.if-not-sound.true)
+returns-then-not-sound c = bad _ c.if-not-sound.true
 
 pub returns-then-not-found : goal.returns-then-not-found
-returns-then-not-found c = none _ (not-false _ c.if-not-sound.false) (not-true _ c.if-not-found.true)
+returns-then-not-found c = none _ c.if-not-sound.false c.if-not-found.true
 
 pub returns : goal.returns
-returns c = held _ (not-false _ c.if-not-sound.false) (not-false _ c.if-not-found.false)
+returns c = held _ c.if-not-sound.false c.if-not-found.false

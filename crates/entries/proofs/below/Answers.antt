@@ -1,6 +1,5 @@
 -- `entries::below` meets its contract: each return is the arm that its tests pick, of one device what `below_wide` ensures.
 -- of one device, the files decide
-use borrow.Author.Rules.{rules}
 use borrow.Author.Tests.{lt-ltb, le-ltb}
 use mathlib.Core.Path.{◌≡◌, ◌∙◌}
 use mathlib.Core.Bool.{Bool}

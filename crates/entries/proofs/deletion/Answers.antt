@@ -1,7 +1,5 @@
 -- `entries::deletion` meets its contract: each return is the arm that its tests pick.
 -- each arm, on values
-use borrow.Author.Rules.{rules}
-use borrow.Author.Tests.{not-true, not-false}
 use native.Mathlib.Omega.{arith}
 use mathlib.Core.Path.{◌≡◌, sym, ap, ◌∙◌}
 use mathlib.Core.Bool.{Bool, true, false}
@@ -36,27 +34,21 @@ module _ (x : Look) (r : Entry) where
       ap {B = Plan} (λ (e : Entry). record { from = x.n - 1; count = x.n - x.at; down = true; first = e; refusal = 0; total = x.n - 1 }) b
       ∙ simp (t, f, sym m ∙ y)
 
--- ? sub-t10 : tie.Need-overflow-sub-t10
--- sub-t10 c = omega (arith, c.requires.1 (not-false _ c.if-not-found.false))
-
--- ? sub-t11 : tie.Need-overflow-sub-t11
--- sub-t11 c = search rules
-
 pub returns-then-not-sound : goal.returns-then-not-sound
-returns-then-not-sound c = bad _ _ (not-true _ c.if-not-sound.true) c.idle.ensures
+returns-then-not-sound c = bad _ _ c.if-not-sound.true c.idle.ensures
 
 pub returns-then-not-found : goal.returns-then-not-found
-returns-then-not-found c = none _ _ (not-false _ c.if-not-sound.false) (not-true _ c.if-not-found.true)
+returns-then-not-found c = none _ _ c.if-not-sound.false c.if-not-found.true
     c.idle-then-not-found.ensures
 
 pub returns-then-not-matched : goal.returns-then-not-matched
-returns-then-not-matched c = other _ _ (not-false _ c.if-not-sound.false)
-    (not-false _ c.if-not-found.false) c.same_cob-matched.ensures (not-true _ c.if-not-matched.true)
+returns-then-not-matched c = other _ _ c.if-not-sound.false
+    c.if-not-found.false c.same_cob-matched.ensures c.if-not-matched.true
     c.idle-then-not-matched.ensures
 
 pub overflow_sub-result : goal.overflow_sub-result
-overflow_sub-result c = omega (arith, c.requires.1 (not-false _ c.if-not-found.false))
+overflow_sub-result c = omega (arith, c.requires.1 c.if-not-found.false)
 
 pub returns : goal.returns
-returns c = there _ _ (not-false _ c.if-not-sound.false) (not-false _ c.if-not-found.false)
-    c.same_cob-matched.ensures (not-false _ c.if-not-matched.false) c.blank_entry-freed.ensures
+returns c = there _ _ c.if-not-sound.false c.if-not-found.false
+    c.same_cob-matched.ensures c.if-not-matched.false c.blank_entry-freed.ensures

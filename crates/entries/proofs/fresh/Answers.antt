@@ -1,5 +1,4 @@
 -- `entries::fresh` meets its contract, by those of `key_of` and `blank_entry`.
-use borrow.Author.Rules.{rules}
 use mathlib.Core.Path.{◌≡◌, ap, ◌∙◌}
 use mathlib.Core.Bool.{true, false}
 use Rattle.entries.specs.declared.Entry.{Entry}

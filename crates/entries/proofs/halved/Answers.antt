@@ -1,5 +1,4 @@
 -- `entries::halved` meets its contract: each return is the half that the test picks.
-use borrow.Author.Rules.{rules}
 use mathlib.Core.Path.{◌≡◌, ap, sym, ◌∙◌}
 use mathlib.Core.Bool.{Bool, true, false}
 use Prim.Native.Nat.{◌+◌}

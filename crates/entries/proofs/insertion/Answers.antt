@@ -1,7 +1,6 @@
 -- `entries::insertion` meets its contract: each return is the arm that its tests pick.
 -- each arm, on values
-use borrow.Author.Rules.{rules}
-use borrow.Author.Tests.{lt-ltb, le-ltb, not-true, not-false}
+use borrow.Author.Tests.{lt-ltb, le-ltb}
 use mathlib.Core.Path.{◌≡◌, ◌∙◌}
 use mathlib.Core.Bool.{true, false}
 use Prim.Native.Nat.{◌+◌, ◌-◌, ◌≤◌, ◌<◌}
@@ -30,13 +29,13 @@ unfolding insertion_of
 new x r s f l = simp (s, f, lt-ltb _ _ l)
 
 pub returns-then-not-sound : goal.returns-then-not-sound
-returns-then-not-sound c = bad _ _ (not-true _ c.if-not-sound.true) c.idle.ensures
+returns-then-not-sound c = bad _ _ c.if-not-sound.true c.idle.ensures
 
 pub returns-then-found : goal.returns-then-found
-returns-then-found c = known _ _ (not-false _ c.if-not-sound.false) c.if-found.true
+returns-then-found c = known _ _ c.if-not-sound.false c.if-found.true
 
 pub returns-then-len-n : goal.returns-then-len-n
-returns-then-len-n c = full _ _ (not-false _ c.if-not-sound.false) c.if-found.false c.if-len-n.true c.idle-then-len-n.ensures
+returns-then-len-n c = full _ _ c.if-not-sound.false c.if-found.false c.if-len-n.true c.idle-then-len-n.ensures
 
 pub returns : goal.returns
-returns c = new _ _ (not-false _ c.if-not-sound.false) c.if-found.false c.if-len-n.false
+returns c = new _ _ c.if-not-sound.false c.if-found.false c.if-len-n.false

@@ -1,5 +1,4 @@
 -- `entries::is_past` meets its contract: each return is the arm that its test picks.
-use borrow.Author.Rules.{rules}
 use mathlib.Core.Path.{◌≡◌, sym, ◌∙◌}
 use mathlib.Core.Bool.{Bool, true, false}
 use lib.Dec.{leb}

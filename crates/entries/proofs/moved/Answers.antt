@@ -1,5 +1,4 @@
 -- `entries::moved` meets its contract: each return is the arm of `moved_to` that its test picks.
-use borrow.Author.Rules.{rules}
 use native.Mathlib.Omega.{arith}
 use Rattle.entries.proofs.moved.Goals as goal
 

@@ -1,5 +1,4 @@
 -- `entries::passed` meets its contract: each field is what the function that works it out ensures.
-use borrow.Author.Rules.{rules}
 use mathlib.Core.Path.{◌≡◌}
 use mathlib.Core.Bool.{Bool, true}
 use Rattle.entries.specs.declared.Entry.{Entry}

@@ -1,5 +1,4 @@
 -- `entries::same` meets its contract: a key below another is not equal to it, and where neither is below they are equal.
-use borrow.Author.Rules.{rules}
 use mathlib.Core.Path.{◌≡◌, sym, ap, ◌∙◌}
 use mathlib.Core.Bool.{Bool, true, false, not}
 use Rattle.entries.specs.declared.Key.{Key}

@@ -1,7 +1,6 @@
 -- `entries::shown` meets its contract: each return is the arm that its tests pick.
 -- each arm, on values
-use borrow.Author.Rules.{rules}
-use borrow.Author.Tests.{not-true, not-false, lt-ltb, le-ltb}
+use borrow.Author.Tests.{lt-ltb, le-ltb}
 use mathlib.Core.Path.{◌≡◌, ◌∙◌}
 use mathlib.Core.Bool.{true, false}
 use Prim.Native.Nat.{ℕ, ◌+◌, ◌-◌, ◌≤◌, ◌<◌}
@@ -29,10 +28,10 @@ module _ (x : Look) (end room : ℕ) where
   all s l = simp (s, le-ltb _ _ l)
 
 pub returns-then-not-sound : goal.returns-then-not-sound
-returns-then-not-sound c = bad _ _ _ (not-true _ c.if-not-sound.true) c.hidden.ensures
+returns-then-not-sound c = bad _ _ _ c.if-not-sound.true c.hidden.ensures
 
 pub returns-then-room-end : goal.returns-then-room-end
-returns-then-room-end c = part _ _ _ (not-false _ c.if-not-sound.false) c.if-room-end.true
+returns-then-room-end c = part _ _ _ c.if-not-sound.false c.if-room-end.true
 
 pub returns : goal.returns
-returns c = all _ _ _ (not-false _ c.if-not-sound.false) c.if-room-end.false
+returns c = all _ _ _ c.if-not-sound.false c.if-room-end.false
