@@ -3,8 +3,6 @@
 
 ghost use Rattle.std.specs.Prelude.{◌<◌};
 
-use libc::STDOUT_FILENO;
-
 // ---- draws
 
 // A number below n, from the seed's next state.
@@ -53,37 +51,38 @@ pub fn fill(seed: &mut u64, out: &mut [u8]) {
 
 // ---- printing
 
-pub fn text(word: &[u8]) {
-    io::write_all(STDOUT_FILENO, word);
+// A write that fails is passed over, here and in all that prints by this: what a program says is compared, so nothing is lost unseen.
+pub fn text(rt: &impl Print, word: &[u8]) {
+    let _ = rt.write_all(word);
 }
 
-pub fn decimal(n: u64) {
-    io::print_decimal(STDOUT_FILENO, n);
+pub fn decimal(rt: &impl Print, n: u64) {
+    let _ = rt.print(n);
 }
 
 // A space and a number.
-pub fn number(n: u64) {
-    text(b" ");
-    decimal(n);
+pub fn number(rt: &impl Print, n: u64) {
+    text(rt, b" ");
+    decimal(rt, n);
 }
 
-pub fn newline() {
-    io::write_all(STDOUT_FILENO, b"\n");
+pub fn newline(rt: &impl Print) {
+    text(rt, b"\n");
 }
 
 // A call's answer by its refusal number.
-pub fn answer(refusal: u64) {
+pub fn answer(rt: &impl Print, refusal: u64) {
     if refusal == 0 {
-        text(b"done");
+        text(rt, b"done");
         return;
     }
-    text(b"refused with ");
-    decimal(refusal);
+    text(rt, b"refused with ");
+    decimal(rt, refusal);
 }
 
-pub fn answer_line(refusal: u64) {
-    answer(refusal);
-    newline();
+pub fn answer_line(rt: &impl Print, refusal: u64) {
+    answer(rt, refusal);
+    newline(rt);
 }
 
 // ---- runs of bytes
@@ -111,12 +110,12 @@ pub fn is_same(a: &[u8], b: &[u8]) -> bool {
 }
 
 // Whether two images are the same, in words.
-pub fn say_same(a: &[u8], b: &[u8]) {
+pub fn say_same(rt: &impl Print, a: &[u8], b: &[u8]) {
     if is_same(a, b) {
-        text(b"the same image\n");
+        text(rt, b"the same image\n");
         return;
     }
-    text(b"ANOTHER image\n");
+    text(rt, b"ANOTHER image\n");
 }
 
 // ---- checksums
