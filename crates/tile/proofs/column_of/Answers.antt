@@ -1,6 +1,5 @@
 -- `tile::column_of` meets its contract. The loop keeps: the target stands in none of the columns passed.
-use Rattle.std.proofs.Common.{◌≡◌, ℕ, ◌-◌, ◌<◌, ◌≤◌, arith, rules, below_none, below_more}
-use Rattle.lists.specs.Tabulate.{at}
+use Rattle.std.proofs.Common.{arith, below_none, below_more}
 use Rattle.tile.specs.Stores.{column-found, column_somewhere}
 use Rattle.tile.proofs.column_of.Goals as goal
 

@@ -1,6 +1,5 @@
-use Rattle.std.proofs.Common.{◌≡◌, ℕ, ◌-◌, ◌<◌, ◌≤◌, arith, rules, below_none, below_more}
+use Rattle.std.proofs.Common.{◌≡◌, ℕ, ◌-◌, ◌<◌, ◌≤◌}
 use Rattle.lists.specs.Tabulate.{at}
-use Rattle.tile.specs.Stores.{column-found, column_somewhere}
 use Rattle.tile.proofs.column_of.Given as goal
 
 abbrev pub invariant-loop-column : goal.invariant-loop-column

@@ -1,5 +1,5 @@
 -- `tile::inverse` meets its contract: the permutation's 64 entries are a bijection, so the stores give its inverse.
-use Rattle.std.proofs.Common.{ℕ, ◌-◌, List, sym, ap, ◌∙◌, subst, le_refl, arith, rules}
+use Rattle.std.proofs.Common.{ℕ, List, sym, ap, ◌∙◌, subst, le_refl, arith}
 use Rattle.tile.specs.Permutation.{inverse_of}
 use Rattle.tile.specs.Laws.{Permutes, permutation_bijection}
 use Rattle.tile.proofs.inverse.Goals as goal

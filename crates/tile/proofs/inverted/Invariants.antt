@@ -1,6 +1,5 @@
-use Rattle.std.proofs.Common.{◌≡◌, ℕ, ◌-◌, ◌<◌, ◌≤◌, length, refl, ◌∙◌, not-suc-le-zero, arith, length-set, rules}
+use Rattle.std.proofs.Common.{◌≡◌, ℕ, ◌-◌, ◌<◌, ◌≤◌, length}
 use Rattle.lists.specs.Tabulate.{at}
-use Rattle.tile.specs.Stores.{store_next, stores_inverse}
 use Rattle.tile.proofs.inverted.Given as goal
 
 abbrev pub invariant-loop-t : goal.invariant-loop-t

@@ -1,6 +1,6 @@
 -- `tile::own_indices` meets its contract: every index passed holds itself.
-use Rattle.std.proofs.Common.{◌≡◌, ℕ, ◌-◌, ◌<◌, ◌≤◌, length, refl, ◌∙◌, arith, length-set, rules, below_none}
-use Rattle.lists.specs.Tabulate.{at, tabulated, fill_step}
+use Rattle.std.proofs.Common.{refl, ◌∙◌, arith, length-set, rules, below_none}
+use Rattle.lists.specs.Tabulate.{tabulated, fill_step}
 use Rattle.tile.specs.Permutation.{own}
 use Rattle.tile.proofs.own_indices.Goals as goal
 

@@ -1,6 +1,5 @@
-use Rattle.std.proofs.Common.{◌≡◌, ℕ, ◌-◌, ◌<◌, ◌≤◌, length, refl, ◌∙◌, arith, length-set, rules, below_none}
-use Rattle.lists.specs.Tabulate.{at, tabulated, fill_step}
-use Rattle.tile.specs.Permutation.{own}
+use Rattle.std.proofs.Common.{◌≡◌, ℕ, ◌-◌, ◌<◌, ◌≤◌, length}
+use Rattle.lists.specs.Tabulate.{at}
 use Rattle.tile.proofs.own_indices.Given as goal
 
 abbrev pub invariant-loop-t : goal.invariant-loop-t

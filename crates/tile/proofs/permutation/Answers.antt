@@ -1,5 +1,5 @@
 -- `tile::permutation` meets its contract. What is left to do, done to what stands, is the answer.
-use Rattle.std.proofs.Common.{◌≡◌, ℕ, ◌-◌, ◌<◌, length, sym, ap, ◌∙◌, arith, rules}
+use Rattle.std.proofs.Common.{◌≡◌, ℕ, ◌-◌, length, sym, ap, ◌∙◌, arith, rules}
 use Rattle.tile.specs.Generator.{begin_of, next_of, draw_of}
 use Rattle.tile.specs.Permutation.{exchange, shuffle_of, permutation_of}
 use Rattle.tile.specs.Laws.{length-own, length-exchange, shuffle_step}

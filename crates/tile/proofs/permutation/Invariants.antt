@@ -1,7 +1,5 @@
-use Rattle.std.proofs.Common.{◌≡◌, ℕ, ◌-◌, ◌<◌, length, sym, ap, ◌∙◌, arith, rules}
-use Rattle.tile.specs.Generator.{begin_of, next_of, draw_of}
-use Rattle.tile.specs.Permutation.{exchange, shuffle_of, permutation_of}
-use Rattle.tile.specs.Laws.{length-own, length-exchange, shuffle_step}
+use Rattle.std.proofs.Common.{◌≡◌, ◌<◌, length}
+use Rattle.tile.specs.Permutation.{shuffle_of, permutation_of}
 use Rattle.tile.proofs.permutation.Given as goal
 
 abbrev pub invariant-loop-i : goal.invariant-loop-i

@@ -1,5 +1,5 @@
 -- `tile::swap` meets its contract, by its definition.
-use Rattle.std.proofs.Common.{refl, rules}
+use Rattle.std.proofs.Common.{refl}
 use Rattle.tile.specs.Permutation.{exchange}
 use Rattle.tile.proofs.swap.Goals as goal
 

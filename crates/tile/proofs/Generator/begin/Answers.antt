@@ -1,5 +1,5 @@
 -- `Generator::begin` meets its contract. The advances that are left, made from where the generator stands, lead to the answer.
-use Rattle.std.proofs.Common.{◌≡◌, ℕ, ◌-◌, sym, ap, ◌∙◌, arith, rules}
+use Rattle.std.proofs.Common.{◌≡◌, ℕ, ◌-◌, sym, ap, ◌∙◌, arith}
 use Rattle.tile.specs.Generator.{start_of, advanced, begin_of}
 use Rattle.tile.specs.Laws.{advanced-step}
 use Rattle.tile.proofs.Generator.begin.Goals as goal

@@ -1,6 +1,5 @@
-use Rattle.std.proofs.Common.{◌≡◌, ℕ, ◌-◌, sym, ap, ◌∙◌, arith, rules}
-use Rattle.tile.specs.Generator.{start_of, advanced, begin_of}
-use Rattle.tile.specs.Laws.{advanced-step}
+use Rattle.std.proofs.Common.{◌≡◌}
+use Rattle.tile.specs.Generator.{advanced, begin_of}
 use Rattle.tile.proofs.Generator.begin.Given as goal
 
 abbrev pub invariant-loop-left : goal.invariant-loop-left

@@ -1,5 +1,5 @@
 -- `Generator::draw` meets its contract: the upper half of the state is below 2^32.
-use Rattle.std.proofs.Common.{◌+◌, ◌/◌, ◌≤◌, refl, mul-le-mul_right, arith, rules}
+use Rattle.std.proofs.Common.{◌+◌, ◌/◌, ◌≤◌, refl, mul-le-mul_right, arith}
 use Rattle.tile.specs.Generator.{draw_of}
 use Rattle.tile.proofs.Generator.draw.Goals as goal
 
