@@ -1,0 +1,15 @@
+use mathlib.Core.Path.{refl, ap, ◌∙◌}
+use Prim.Native.Nat.{ℕ, ◌+◌, ◌-◌, ◌≤◌}
+use native.Mathlib.Omega.{arith}
+use lib.ListN.{length, get_or}
+use Rattle.field.specs.Byte.{◌⊕◌}
+use Rattle.lists.specs.Span.{Span, span_none, span_cong}
+use Rattle.kernel.specs.Plan.{planned}
+use Rattle.kernel.specs.Combine.{block_span, add_turn, add_none, planned-sum, reach, reach_to}
+use Rattle.kernel.proofs.combine.Given as goal
+
+abbrev pub invariant-loop-o : goal.invariant-loop-o
+invariant-loop-o l = (l.o ≤ l.len) × Span (λ y. get_or l.initial.out y 0 ⊕ planned l.src l.list l.counts l.top (y - l.to)) l.to (l.to + l.o) l.initial.out l.out
+
+abbrev pub decreases-loop-o : goal.decreases-loop-o
+decreases-loop-o l = l.len - l.o

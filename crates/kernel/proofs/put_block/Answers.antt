@@ -1,0 +1,43 @@
+-- `kernel::put_block`. The loop keeps: i bytes from o on are the block's.
+use mathlib.Core.Path.{◌≡◌, ap, subst}
+use Prim.Native.Nat.{ℕ, ◌+◌, ◌-◌, ◌≤◌}
+use native.Mathlib.Omega.{arith}
+use lib.ListN.{get_or}
+use Rattle.lists.specs.Span.{Span, span_none, span_step}
+use Rattle.kernel.proofs.put_block.Goals as goal
+
+pub loop-i-init : goal.loop-i-init
+loop-i-init c = (omega arith, span_none _ c.args.o c.args.out.now (omega arith))
+
+pub bounds-b-i : goal.bounds-b-i
+bounds-b-i c = omega arith
+
+pub overflow_add-out : goal.overflow_add-out
+overflow_add-out c = omega arith
+
+pub bounds-out-o : goal.bounds-out-o
+bounds-out-o c = omega arith
+
+pub overflow_add-i : goal.overflow_add-i
+overflow_add-i c = omega arith
+
+pub loop-i-smaller : goal.loop-i-smaller
+loop-i-smaller c = omega arith
+
+pub loop-i-preserved : goal.loop-i-preserved
+loop-i-preserved c = let a = c.args in
+    let l = c.loop-i in
+    let n = l.invariant.1.len in (
+      omega arith,
+      span_step _ a.o (a.o + l.i) l.out _ (omega arith) (omega arith) (omega arith) l.invariant.1
+          (ap (λ (z : ℕ). get_or a.b.now z 0) (let w : l.i ≡ a.o + l.i - a.o = omega arith in w)),
+    )
+
+pub shape_of-out : goal.shape_of-out
+shape_of-out c = c.loop-i.invariant.1.len
+
+pub returns : goal.returns
+returns c = let a = c.args in
+    let l = c.loop-i in
+    let e : l.i ≡ a.m = omega arith in
+    subst (λ (z : ℕ). Span (λ y. get_or a.b.now (y - a.o) 0) a.o (a.o + z) a.out.now l.out) e l.invariant.1

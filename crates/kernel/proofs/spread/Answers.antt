@@ -1,0 +1,72 @@
+-- `kernel::spread`. The loop keeps: the source stands in the lists of the digits below k. A turn is `spread_step`.
+use mathlib.Core.Path.{◌≡◌, ◌∙◌}
+use Prim.Native.Nat.{◌-◌, ◌≤◌}
+use native.Mathlib.Nat.{le_refl, not-suc-le-zero}
+use native.Mathlib.Omega.{arith}
+use lib.ListN.{length, get_or, length-set}
+use Rattle.kernel.specs.Fill.{Spread, spread_step}
+use Rattle.kernel.proofs.spread.Goals as goal
+
+-- the lists have room for one source more
+room : (c : goal.After-q-1) → get_or c.loop-k.counts c.loop-k.k 0 ≤ c.args.j
+room c = (c.loop-k.invariant.3.left c.loop-k.k (le_refl _) c.loop-k-test.true).few
+
+pub offset_bounds-starts-j : goal.offset_bounds-starts-j
+offset_bounds-starts-j c = omega arith
+
+pub bounds-starts-j : goal.bounds-starts-j
+bounds-starts-j c = omega arith
+
+pub bounds-coefs-j : goal.bounds-coefs-j
+bounds-coefs-j c = omega arith
+
+pub loop-k-init : goal.loop-k-init
+loop-k-init c = (omega arith, c.requires.0, c.requires.1, record { done = λ x h. absurd (not-suc-le-zero h); left = λ x g h. c.requires.3 x h })
+
+pub offset_bounds-counts-k : goal.offset_bounds-counts-k
+offset_bounds-counts-k c = omega arith
+
+pub bounds-counts-k : goal.bounds-counts-k
+bounds-counts-k c = omega arith
+
+pub overflow_mul-list : goal.overflow_mul-list
+overflow_mul-list c = omega arith
+
+pub overflow_add-list : goal.overflow_add-list
+overflow_add-list c = omega (arith, room c)
+
+pub offset_bounds-list-k : goal.offset_bounds-list-k
+offset_bounds-list-k c = omega (arith, room c)
+
+pub bounds-list-k : goal.bounds-list-k
+bounds-list-k c = omega (arith, room c)
+
+pub digit-requires : goal.digit-requires
+digit-requires c = omega arith
+
+pub overflow_add-counts : goal.overflow_add-counts
+overflow_add-counts c = omega (arith, room c.before)
+
+pub offset_bounds-counts-k-in-loop-k : goal.offset_bounds-counts-k-in-loop-k
+offset_bounds-counts-k-in-loop-k c = omega arith
+
+pub bounds-counts-k-in-loop-k : goal.bounds-counts-k-in-loop-k
+bounds-counts-k-in-loop-k c = omega arith
+
+pub overflow_add-k : goal.overflow_add-k
+overflow_add-k c = omega arith
+
+pub loop-k-smaller : goal.loop-k-smaller
+loop-k-smaller c = omega arith
+
+pub loop-k-preserved : goal.loop-k-preserved
+loop-k-preserved c = let a = c.args in
+    let l = c.loop-k in (
+      omega arith,
+      length-set l.list _ _ ∙ l.invariant.1,
+      length-set l.counts _ _ ∙ l.invariant.2,
+      spread_step a.starts.now a.coefs.now a.j l.list l.counts l.k c.digit.result c.requires.2 l.invariant.1 l.invariant.2 c.loop-k-test.true c.digit.ensures.0 c.digit.ensures.1 l.invariant.3,
+    )
+
+pub returns : goal.returns
+returns c = (c.loop-k.invariant.1, c.loop-k.invariant.2, λ x h. c.loop-k.invariant.3.done x (omega arith))
