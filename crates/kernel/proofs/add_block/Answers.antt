@@ -1,6 +1,6 @@
 -- `kernel::add_block`. The loop keeps: i bytes from o on have the block added.
 use mathlib.Core.Path.{◌≡◌, ap, ap₂, subst}
-use Prim.Native.Nat.{ℕ, ◌+◌, ◌-◌, ◌≤◌}
+use Prim.Native.Nat.{ℕ, ◌+◌, ◌-◌}
 use native.Mathlib.Nat.{le_refl}
 use native.Mathlib.Omega.{arith}
 use lib.ListN.{get_or}

@@ -1,11 +1,7 @@
-use mathlib.Core.Path.{◌≡◌, ap, ap₂, subst}
-use Prim.Native.Nat.{ℕ, ◌+◌, ◌-◌, ◌≤◌}
-use native.Mathlib.Nat.{le_refl}
-use native.Mathlib.Omega.{arith}
+use Prim.Native.Nat.{◌+◌, ◌-◌, ◌≤◌}
 use lib.ListN.{get_or}
-use lib.Bits.{bit_xor}
 use Rattle.field.specs.Byte.{◌⊕◌}
-use Rattle.lists.specs.Span.{Span, span_none, span_step}
+use Rattle.lists.specs.Span.{Span}
 use Rattle.kernel.proofs.add_block.Given as goal
 
 abbrev pub invariant-loop-i : goal.invariant-loop-i

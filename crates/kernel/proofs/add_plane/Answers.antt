@@ -1,9 +1,8 @@
 -- `kernel::add_plane`. The loop keeps: the first q runs are added. A turn is `plane_turn`.
 use mathlib.Core.Path.{◌≡◌, refl, ◌∙◌, subst}
-use Prim.Native.Nat.{ℕ, ◌+◌, ◌-◌, ◌≤◌}
+use Prim.Native.Nat.{ℕ, ◌+◌}
 use native.Mathlib.Omega.{arith}
-use lib.ListN.{length, get_or}
-use borrow.Author.Rules.{rules}
+use lib.ListN.{get_or}
 use Rattle.field.specs.Byte.{◌⊕◌}
 use Rattle.lists.specs.Span.{Span}
 use Rattle.kernel.specs.Plan.{picked, plane-none, plane_turn}
@@ -15,7 +14,7 @@ loop-q-init c = let a = c.args in
 
 pub overflow_add-s-in-loop-q : goal.overflow_add-s-in-loop-q
 overflow_add-s-in-loop-q c = let a = c.args in
-    omega (arith, c.requires.2.ends c.loop-q.q c.loop-q-test.true, c.well-formed)
+    omega (arith, c.requires.2.ends c.loop-q.q c.loop-q-test.true, c.well_formed)
 
 pub xor_run-requires : goal.xor_run-requires
 xor_run-requires c = (c.loop-q.invariant.1, c.requires.1, omega (arith, c.requires.2.ends c.loop-q.q c.loop-q-test.true))

@@ -1,11 +1,9 @@
-use mathlib.Core.Path.{◌≡◌, refl, ◌∙◌, subst}
-use Prim.Native.Nat.{ℕ, ◌+◌, ◌-◌, ◌≤◌}
-use native.Mathlib.Omega.{arith}
+use mathlib.Core.Path.{◌≡◌}
+use Prim.Native.Nat.{◌+◌, ◌-◌, ◌≤◌}
 use lib.ListN.{length, get_or}
-use borrow.Author.Rules.{rules}
 use Rattle.field.specs.Byte.{◌⊕◌}
 use Rattle.lists.specs.Span.{Span}
-use Rattle.kernel.specs.Plan.{picked, plane-none, plane_turn}
+use Rattle.kernel.specs.Plan.{picked}
 use Rattle.kernel.proofs.add_plane.Given as goal
 
 abbrev pub invariant-loop-q : goal.invariant-loop-q

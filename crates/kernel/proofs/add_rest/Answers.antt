@@ -5,7 +5,6 @@ use lib.ListN.{get_or}
 use Rattle.field.specs.Byte.{◌⊕◌}
 use Rattle.kernel.specs.Plan.{planned}
 use Rattle.kernel.specs.Combine.{block_span, reach_to}
-use borrow.Author.Rules.{rules}
 use Rattle.kernel.proofs.add_rest.Goals as goal
 
 pub block-b-requires : goal.block-b-requires

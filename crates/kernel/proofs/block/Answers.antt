@@ -1,11 +1,10 @@
 -- `kernel::block`. The loop keeps: the array holds what the digits from k on give, by Horner's rule. A turn is `digit_turn`.
 use mathlib.Core.Path.{refl, ◌∙◌}
-use Prim.Native.Nat.{◌+◌, ◌-◌, ◌*◌, ◌≤◌}
+use Prim.Native.Nat.{◌+◌, ◌-◌, ◌*◌}
 use native.Mathlib.Nat.{le_refl}
 use native.Mathlib.Omega.{arith}
 use lib.ListN.{get_or}
-use Rattle.kernel.specs.Horner.{poly}
-use Rattle.kernel.specs.Plan.{picked, planned, Filled, digits_none, digits_all, digit_turn, first_zero}
+use Rattle.kernel.specs.Plan.{picked, planned, digits_none, digits_all, digit_turn, first_zero}
 use Rattle.kernel.proofs.block.Goals as goal
 
 pub loop-k-init : goal.loop-k-init

@@ -1,10 +1,7 @@
-use mathlib.Core.Path.{refl, ◌∙◌}
 use Prim.Native.Nat.{◌+◌, ◌-◌, ◌*◌, ◌≤◌}
-use native.Mathlib.Nat.{le_refl}
-use native.Mathlib.Omega.{arith}
 use lib.ListN.{get_or}
 use Rattle.kernel.specs.Horner.{poly}
-use Rattle.kernel.specs.Plan.{picked, planned, Filled, digits_none, digits_all, digit_turn, first_zero}
+use Rattle.kernel.specs.Plan.{picked, Filled}
 use Rattle.kernel.proofs.block.Given as goal
 
 abbrev pub invariant-loop-k : goal.invariant-loop-k

@@ -1,11 +1,11 @@
 -- `kernel::combine`. The loop keeps: the sum that the plan names stands added in the bytes before to + o. That this is the sum of the multiples is
 -- `planned-sum`, once, at the end.
 use mathlib.Core.Path.{refl, ap, ◌∙◌}
-use Prim.Native.Nat.{ℕ, ◌+◌, ◌-◌, ◌≤◌}
+use Prim.Native.Nat.{ℕ, ◌+◌, ◌-◌}
 use native.Mathlib.Omega.{arith}
 use lib.ListN.{length, get_or}
 use Rattle.field.specs.Byte.{◌⊕◌}
-use Rattle.lists.specs.Span.{Span, span_none, span_cong}
+use Rattle.lists.specs.Span.{span_none, span_cong}
 use Rattle.kernel.specs.Plan.{planned}
 use Rattle.kernel.specs.Combine.{block_span, add_turn, add_none, planned-sum, reach, reach_to}
 use Rattle.kernel.proofs.combine.Goals as goal
@@ -32,7 +32,7 @@ block-b-requires c = let a = c.args in
     let t = c.top_of-top in (
       omega arith,
       t.ensures.0,
-      λ k h. reach_to (reach a.n a.coefs.now a.starts.now a.src.now p.new.0 p.result t.result p.ensures a.len (length a.src.now) c.requires.0 t.ensures.0 c.requires.2 k h) (omega arith),
+      λ k h. reach_to (reach a.n a.coefs.now a.starts.now a.src.now p.new.list p.result t.result p.ensures a.len (length a.src.now) c.requires.0 t.ensures.0 c.requires.2 k h) (omega arith),
     )
 
 pub overflow_add-to : goal.overflow_add-to
@@ -51,7 +51,7 @@ pub loop-o-preserved : goal.loop-o-preserved
 loop-o-preserved c = let a = c.args in
     let l = c.loop-o in
     let p = c.plan-counts in
-    let g : ℕ → ℕ = planned a.src.now p.new.0 p.result c.top_of-top.result in (
+    let g : ℕ → ℕ = planned a.src.now p.new.list p.result c.top_of-top.result in (
       omega arith,
       add_turn g a.to l.o (a.to + (l.o + 128)) (omega arith) l.invariant.1
           (block_span (λ y v. get_or l.out y 0 ⊕ v) g a.to l.o 128 (a.to + (l.o + 128)) c.block-b.result (omega arith) c.block-b.ensures c.add_block.ensures),
@@ -66,7 +66,7 @@ add_rest-requires c = let a = c.args in
       omega arith,
       omega arith,
       t.ensures.0,
-      reach a.n a.coefs.now a.starts.now a.src.now p.new.0 p.result t.result p.ensures a.len (length a.src.now) c.requires.0 t.ensures.0 c.requires.2,
+      reach a.n a.coefs.now a.starts.now a.src.now p.new.list p.result t.result p.ensures a.len (length a.src.now) c.requires.0 t.ensures.0 c.requires.2,
     )
 
 pub shape_of-out : goal.shape_of-out
@@ -77,7 +77,7 @@ returns c = let a = c.args in
     let l = c.loop-o in
     let p = c.plan-counts in
     let t = c.top_of-top in
-    let g : ℕ → ℕ = planned a.src.now p.new.0 p.result t.result in
+    let g : ℕ → ℕ = planned a.src.now p.new.list p.result t.result in
     span_cong _ _ a.to (a.to + a.len) (λ y i j. ap (get_or a.out.now y 0 ⊕◌)
-    (planned-sum a.n a.coefs.now a.starts.now a.src.now p.new.0 p.result t.result p.ensures (y - a.to) t.ensures.0 t.ensures.1 (λ x. omega (arith, c.shared_slice_known-1.given x))))
+    (planned-sum a.n a.coefs.now a.starts.now a.src.now p.new.list p.result t.result p.ensures (y - a.to) t.ensures.0 t.ensures.1 (λ x. omega (arith, c.type_inv.src x))))
     (add_turn g a.to l.o (a.to + a.len) (omega arith) l.invariant.1 c.add_rest.ensures)

@@ -1,11 +1,8 @@
-use mathlib.Core.Path.{refl, ap, ◌∙◌}
-use Prim.Native.Nat.{ℕ, ◌+◌, ◌-◌, ◌≤◌}
-use native.Mathlib.Omega.{arith}
-use lib.ListN.{length, get_or}
+use Prim.Native.Nat.{◌+◌, ◌-◌, ◌≤◌}
+use lib.ListN.{get_or}
 use Rattle.field.specs.Byte.{◌⊕◌}
-use Rattle.lists.specs.Span.{Span, span_none, span_cong}
+use Rattle.lists.specs.Span.{Span}
 use Rattle.kernel.specs.Plan.{planned}
-use Rattle.kernel.specs.Combine.{block_span, add_turn, add_none, planned-sum, reach, reach_to}
 use Rattle.kernel.proofs.combine.Given as goal
 
 abbrev pub invariant-loop-o : goal.invariant-loop-o

@@ -1,12 +1,12 @@
 -- `kernel::combine_in`. Each loop keeps: the bytes from `at` to `at + o` hold the sum over the list that the loop found. The runs lie apart from what is
 -- written, so a block worked out from the list as it stands is that of the list found (`put_turn`), and so are both loops' (`put_again`, `put_both`).
 use mathlib.Core.Path.{refl, sym, ◌∙◌}
-use Prim.Native.Nat.{ℕ, ◌+◌, ◌-◌, ◌<◌, ◌≤◌}
+use Prim.Native.Nat.{ℕ, ◌+◌}
 use native.Mathlib.Omega.{arith}
-use lib.ListN.{length, get_or}
-use Rattle.lists.specs.Span.{Span, span_none}
+use lib.ListN.{length}
+use Rattle.lists.specs.Span.{span_none}
 use Rattle.kernel.specs.Plan.{planned}
-use Rattle.kernel.specs.Combine.{sum_at, block_span, planned-sum, reach, reach_to}
+use Rattle.kernel.specs.Combine.{block_span, planned-sum, reach, reach_to}
 use Rattle.kernel.specs.InPlace.{put_turn, put_again, put_both}
 use Rattle.kernel.proofs.combine_in.Goals as goal
 
@@ -17,7 +17,7 @@ pub plan-counts-requires : goal.plan-counts-requires
 plan-counts-requires c = (refl, c.requires.0, c.top_of-top.ensures.0)
 
 pub loop-o-init : goal.loop-o-init
-loop-o-init c = (omega arith, (λ x. omega (arith, c.slice_known-1.given x)), span_none _ c.args.at c.args.buf.now (omega arith))
+loop-o-init c = (omega arith, (λ x. omega (arith, c.type_inv.buf x)), span_none _ c.args.at c.args.buf.now (omega arith))
 
 pub overflow_sub-len : goal.overflow_sub-len
 overflow_sub-len c = omega arith
@@ -33,7 +33,7 @@ block-b-requires c = let a = c.args in
     let n = l.invariant.2.len in (
       omega arith,
       t.ensures.0,
-      λ k h. reach_to (reach a.n a.coefs.now a.starts.now l.buf p.new.0 p.result t.result p.ensures a.len (length l.buf) c.requires.0 t.ensures.0
+      λ k h. reach_to (reach a.n a.coefs.now a.starts.now l.buf p.new.list p.result t.result p.ensures a.len (length l.buf) c.requires.0 t.ensures.0
           (λ j m. let w = (c.requires.2 j m).inside in omega arith) k h)
           (omega (arith, c.block_from-from.ensures.0, c.loop-o-test.true)),
     )
@@ -58,11 +58,11 @@ loop-o-preserved c = let a = c.args in
     let l = c.loop-o in
     let p = c.plan-counts in
     let t = c.top_of-top in
-    let g : ℕ → ℕ = planned l.buf p.new.0 p.result t.result in (
+    let g : ℕ → ℕ = planned l.buf p.new.list p.result t.result in (
       omega (arith, c.block_from-from.ensures.0, c.loop-o-test.true),
-      (λ x. omega (arith, c.slice_known-in-loop-o-1.given x)),
+      (λ x. omega (arith, c.type_inv.buf x)),
       put_turn a.n a.coefs.now a.starts.now a.at a.len (length a.buf.now) c.requires.2 g c.block_from-from.result l.o (a.at + (c.block_from-from.result + 192)) c.block_from-from.ensures.0 (omega (arith, c.block_from-from.ensures.1)) (omega (arith, c.block_from-from.ensures.0, c.loop-o-test.true)) l.invariant.2
-          (λ x. planned-sum a.n a.coefs.now a.starts.now l.buf p.new.0 p.result t.result p.ensures x t.ensures.0 t.ensures.1 l.invariant.1)
+          (λ x. planned-sum a.n a.coefs.now a.starts.now l.buf p.new.list p.result t.result p.ensures x t.ensures.0 t.ensures.1 l.invariant.1)
           (block_span (λ y v. v) g a.at c.block_from-from.result 192 (a.at + (c.block_from-from.result + 192)) c.block-b.result (omega arith) c.block-b.ensures c.put_block.ensures),
     )
 
@@ -83,7 +83,7 @@ block-b-requires-in-loop-o-2 c = let a = c.args in
     let n = l.invariant.2.len in (
       omega arith,
       t.ensures.0,
-      λ k h. reach_to (reach a.n a.coefs.now a.starts.now l.buf p.new.0 p.result t.result p.ensures a.len (length l.buf) c.requires.0 t.ensures.0
+      λ k h. reach_to (reach a.n a.coefs.now a.starts.now l.buf p.new.list p.result t.result p.ensures a.len (length l.buf) c.requires.0 t.ensures.0
           (λ j m. let w = (c.requires.2 j m).inside in omega arith) k h)
           (omega (arith, c.loop-o-2-test.true)),
     )
@@ -108,11 +108,11 @@ loop-o-2-preserved c = let a = c.args in
     let l = c.loop-o-2 in
     let p = c.plan-counts in
     let t = c.top_of-top in
-    let g : ℕ → ℕ = planned l.buf p.new.0 p.result t.result in (
+    let g : ℕ → ℕ = planned l.buf p.new.list p.result t.result in (
       omega (arith, c.loop-o-2-test.true),
-      (λ x. omega (arith, c.slice_known-in-loop-o-2-1.given x)),
+      (λ x. omega (arith, c.type_inv.buf x)),
       put_turn a.n a.coefs.now a.starts.now a.at a.len (length a.buf.now) c.requires.2 g l.o l.o (a.at + (l.o + 128)) (omega arith) (omega arith) (omega (arith, c.loop-o-2-test.true)) l.invariant.2
-          (λ x. planned-sum a.n a.coefs.now a.starts.now l.buf p.new.0 p.result t.result p.ensures x t.ensures.0 t.ensures.1 l.invariant.1)
+          (λ x. planned-sum a.n a.coefs.now a.starts.now l.buf p.new.list p.result t.result p.ensures x t.ensures.0 t.ensures.1 l.invariant.1)
           (block_span (λ y v. v) g a.at l.o 128 (a.at + (l.o + 128)) c.block-b-in-loop-o-2.result (omega arith) c.block-b-in-loop-o-2.ensures c.put_block-in-loop-o-2.ensures),
     )
 
@@ -126,11 +126,11 @@ put_rest-requires c = let a = c.args in
     let p = c.plan-counts in
     let t = c.top_of-top in
     let n = l.invariant.2.len in (
-      omega (arith, l.invariant.0, c.Rest-from.ensures),
-      c.Rest-from.ensures.1,
+      omega (arith, l.invariant.0, c.rest_from.ensures),
+      c.rest_from.ensures.1,
       omega arith,
       t.ensures.0,
-      reach a.n a.coefs.now a.starts.now l.buf p.new.0 p.result t.result p.ensures a.len (length l.buf) c.requires.0 t.ensures.0
+      reach a.n a.coefs.now a.starts.now l.buf p.new.list p.result t.result p.ensures a.len (length l.buf) c.requires.0 t.ensures.0
           (λ j m. let w = (c.requires.2 j m).inside in omega arith),
     )
 
@@ -142,8 +142,8 @@ returns c = let a = c.args in
     let l = c.loop-o-2 in
     let p = c.plan-counts in
     let t = c.top_of-top in
-    let f = c.Rest-from in
+    let f = c.rest_from in
     let e = c.loop-o in
     put_both a.n a.coefs.now a.starts.now a.at a.len (length a.buf.now) c.requires.2 e.o e.invariant.0 e.invariant.2
-    (put_turn a.n a.coefs.now a.starts.now a.at a.len (length a.buf.now) c.requires.2 (planned l.buf p.new.0 p.result t.result) f.result l.o (a.at + a.len) f.ensures.0 (omega arith) (omega arith) l.invariant.2
-    (λ x. planned-sum a.n a.coefs.now a.starts.now l.buf p.new.0 p.result t.result p.ensures x t.ensures.0 t.ensures.1 l.invariant.1) c.put_rest.ensures)
+    (put_turn a.n a.coefs.now a.starts.now a.at a.len (length a.buf.now) c.requires.2 (planned l.buf p.new.list p.result t.result) f.result l.o (a.at + a.len) f.ensures.0 (omega arith) (omega arith) l.invariant.2
+    (λ x. planned-sum a.n a.coefs.now a.starts.now l.buf p.new.list p.result t.result p.ensures x t.ensures.0 t.ensures.1 l.invariant.1) c.put_rest.ensures)

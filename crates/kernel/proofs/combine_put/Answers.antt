@@ -1,10 +1,10 @@
 -- `kernel::combine_put`. Each loop keeps: the sum that the plan names stands in the bytes from `to` to `to + o`. That this is the sum of the multiples
 -- is `planned-sum`, once, at the end.
 use mathlib.Core.Path.{refl, sym, ◌∙◌}
-use Prim.Native.Nat.{ℕ, ◌+◌, ◌-◌, ◌≤◌}
+use Prim.Native.Nat.{ℕ, ◌+◌, ◌-◌}
 use native.Mathlib.Omega.{arith}
 use lib.ListN.{length}
-use Rattle.lists.specs.Span.{Span, span_none, span_cong, span_join}
+use Rattle.lists.specs.Span.{span_none, span_cong, span_join}
 use Rattle.kernel.specs.Plan.{planned}
 use Rattle.kernel.specs.Combine.{block_span, span_over, span_again, planned-sum, reach, reach_to}
 use Rattle.kernel.proofs.combine_put.Goals as goal
@@ -27,7 +27,7 @@ block-b-requires c = let a = c.args in
     let t = c.top_of-top in (
       omega arith,
       t.ensures.0,
-      λ k h. reach_to (reach a.n a.coefs.now a.starts.now a.src.now p.new.0 p.result t.result p.ensures a.len (length a.src.now) c.requires.0 t.ensures.0 c.requires.2 k h) (omega arith),
+      λ k h. reach_to (reach a.n a.coefs.now a.starts.now a.src.now p.new.list p.result t.result p.ensures a.len (length a.src.now) c.requires.0 t.ensures.0 c.requires.2 k h) (omega arith),
     )
 
 pub slice_bounds-put_block-end : goal.slice_bounds-put_block-end
@@ -49,7 +49,7 @@ pub loop-o-preserved : goal.loop-o-preserved
 loop-o-preserved c = let a = c.args in
     let l = c.loop-o in
     let p = c.plan-counts in
-    let g : ℕ → ℕ = planned a.src.now p.new.0 p.result c.top_of-top.result in (
+    let g : ℕ → ℕ = planned a.src.now p.new.list p.result c.top_of-top.result in (
       omega arith,
       span_join (λ y. g (y - a.to)) (λ y. g (y - a.to)) (λ y. g (y - a.to)) a.to (a.to + l.o) (a.to + (l.o + 192)) (omega arith) (omega arith) l.invariant.1
           (block_span (λ y v. v) g a.to l.o 192 (a.to + (l.o + 192)) c.block-b.result (omega arith) c.block-b.ensures c.put_block.ensures)
@@ -68,7 +68,7 @@ block-b-requires-in-loop-o-2 c = let a = c.args in
     let t = c.top_of-top in (
       omega arith,
       t.ensures.0,
-      λ k h. reach_to (reach a.n a.coefs.now a.starts.now a.src.now p.new.0 p.result t.result p.ensures a.len (length a.src.now) c.requires.0 t.ensures.0 c.requires.2 k h) (omega arith),
+      λ k h. reach_to (reach a.n a.coefs.now a.starts.now a.src.now p.new.list p.result t.result p.ensures a.len (length a.src.now) c.requires.0 t.ensures.0 c.requires.2 k h) (omega arith),
     )
 
 pub slice_bounds-put_block-end-in-loop-o-2 : goal.slice_bounds-put_block-end-in-loop-o-2
@@ -90,7 +90,7 @@ pub loop-o-2-preserved : goal.loop-o-2-preserved
 loop-o-2-preserved c = let a = c.args in
     let l = c.loop-o-2 in
     let p = c.plan-counts in
-    let g : ℕ → ℕ = planned a.src.now p.new.0 p.result c.top_of-top.result in (
+    let g : ℕ → ℕ = planned a.src.now p.new.list p.result c.top_of-top.result in (
       omega arith,
       span_join (λ y. g (y - a.to)) (λ y. g (y - a.to)) (λ y. g (y - a.to)) a.to (a.to + l.o) (a.to + (l.o + 128)) (omega arith) (omega arith) l.invariant.1
           (block_span (λ y v. v) g a.to l.o 128 (a.to + (l.o + 128)) c.block-b-in-loop-o-2.result (omega arith) c.block-b-in-loop-o-2.ensures c.put_block-in-loop-o-2.ensures)
@@ -106,11 +106,11 @@ put_rest_of-requires c = let a = c.args in
     let t = c.top_of-top in
     let w = c.loop-o-2.invariant.1.len in
     let v = c.loop-o.invariant.1.len in (
-      omega (arith, c.loop-o-2.invariant.0, c.Rest-from.ensures),
-      c.Rest-from.ensures.1,
+      omega (arith, c.loop-o-2.invariant.0, c.rest_from.ensures),
+      c.rest_from.ensures.1,
       omega arith,
       t.ensures.0,
-      reach a.n a.coefs.now a.starts.now a.src.now p.new.0 p.result t.result p.ensures a.len (length a.src.now) c.requires.0 t.ensures.0 c.requires.2,
+      reach a.n a.coefs.now a.starts.now a.src.now p.new.list p.result t.result p.ensures a.len (length a.src.now) c.requires.0 t.ensures.0 c.requires.2,
     )
 
 pub shape_of-out : goal.shape_of-out
@@ -122,9 +122,9 @@ returns c = let a = c.args in
     let e = c.loop-o in
     let p = c.plan-counts in
     let t = c.top_of-top in
-    let g : ℕ → ℕ = planned a.src.now p.new.0 p.result t.result in
+    let g : ℕ → ℕ = planned a.src.now p.new.list p.result t.result in
     span_cong _ _ a.to (a.to + a.len)
-    (λ y i j. planned-sum a.n a.coefs.now a.starts.now a.src.now p.new.0 p.result t.result p.ensures (y - a.to) t.ensures.0 t.ensures.1 (λ x. omega (arith, c.shared_slice_known-1.given x)))
+    (λ y i j. planned-sum a.n a.coefs.now a.starts.now a.src.now p.new.list p.result t.result p.ensures (y - a.to) t.ensures.0 t.ensures.1 (λ x. omega (arith, c.type_inv.src x)))
     (span_over (λ y. g (y - a.to)) (λ y. g (y - a.to)) a.to a.to (a.to + e.o) (a.to + a.len) (omega arith) (omega arith) (omega (arith, e.invariant.0)) e.invariant.1
-    (span_over (λ y. g (y - a.to)) (λ y. g (y - a.to)) a.to (a.to + c.Rest-from.result) (a.to + l.o) (a.to + a.len) (omega arith) (omega (arith, c.Rest-from.ensures.0)) (omega arith) l.invariant.1 c.put_rest_of.ensures
+    (span_over (λ y. g (y - a.to)) (λ y. g (y - a.to)) a.to (a.to + c.rest_from.result) (a.to + l.o) (a.to + a.len) (omega arith) (omega (arith, c.rest_from.ensures.0)) (omega arith) l.invariant.1 c.put_rest_of.ensures
     (λ y i j. refl)) (λ y i j. refl))

@@ -1,10 +1,6 @@
-use mathlib.Core.Path.{refl, sym, ◌∙◌}
-use Prim.Native.Nat.{ℕ, ◌+◌, ◌-◌, ◌≤◌}
-use native.Mathlib.Omega.{arith}
-use lib.ListN.{length}
-use Rattle.lists.specs.Span.{Span, span_none, span_cong, span_join}
+use Prim.Native.Nat.{◌+◌, ◌-◌, ◌≤◌}
+use Rattle.lists.specs.Span.{Span}
 use Rattle.kernel.specs.Plan.{planned}
-use Rattle.kernel.specs.Combine.{block_span, span_over, span_again, planned-sum, reach, reach_to}
 use Rattle.kernel.proofs.combine_put.Given as goal
 
 abbrev pub invariant-loop-o : goal.invariant-loop-o
@@ -14,7 +10,7 @@ abbrev pub decreases-loop-o : goal.decreases-loop-o
 decreases-loop-o l = l.len - l.o
 
 abbrev pub invariant-loop-o-2 : goal.invariant-loop-o-2
-invariant-loop-o-2 l = invariant_loop
+invariant-loop-o-2 l = (l.o ≤ l.len) × Span (λ y. planned l.src l.list l.counts l.top (y - l.to)) l.to (l.to + l.o) l.initial.out l.out
 
 abbrev pub decreases-loop-o-2 : goal.decreases-loop-o-2
-decreases-loop-o-2 l = decreases_loop
+decreases-loop-o-2 l = l.len - l.o

@@ -1,6 +1,5 @@
 -- `kernel::double_from`. Where nothing is doubled the bytes are zeros, which are twice themselves.
 use Rattle.kernel.specs.Plan.{double-none}
-use borrow.Author.Rules.{rules}
 use Rattle.kernel.proofs.double_from.Goals as goal
 
 pub returns-else-on : goal.returns-else-on

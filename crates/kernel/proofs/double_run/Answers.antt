@@ -1,9 +1,8 @@
 -- `kernel::double_run`. The loop keeps: the bytes before i are doubled, the others as they were.
 use mathlib.Core.Path.{◌≡◌, refl, ap, ◌∙◌, subst}
-use Prim.Native.Nat.{ℕ, ◌-◌, ◌≤◌}
+use Prim.Native.Nat.{ℕ}
 use native.Mathlib.Omega.{arith}
-use lib.ListN.{length, get_or, length-set}
-use borrow.Author.Rules.{rules}
+use lib.ListN.{get_or, length-set}
 use Rattle.field.specs.Byte.{double}
 use Rattle.lists.specs.Span.{Span, span_none, span_step}
 use Rattle.kernel.proofs.double_run.Goals as goal
@@ -13,10 +12,10 @@ loop-i-init c = (omega arith, c.requires.0, span_none _ 0 _ refl)
 
 pub loop-i-preserved : goal.loop-i-preserved
 loop-i-preserved c = let l = c.loop-i in (
-      omega arith,
-      length-set l.acc l.i _ ∙ l.invariant.1,
-      span_step _ 0 l.i l.acc _ (omega arith) (omega arith) refl l.invariant.2 (c.double.ensures ∙ ap double (l.invariant.2.after l.i (omega arith))),
-    )
+  omega arith,
+  length-set l.acc l.i _ ∙ l.invariant.1,
+  span_step _ 0 l.i l.acc _ (omega arith) (omega arith) refl l.invariant.2 (c.double.ensures ∙ ap double (l.invariant.2.after l.i (omega arith))),
+)
 
 pub returns : goal.returns
 returns c = let l = c.loop-i in

@@ -1,10 +1,8 @@
-use mathlib.Core.Path.{◌≡◌, refl, ap, ◌∙◌, subst}
-use Prim.Native.Nat.{ℕ, ◌-◌, ◌≤◌}
-use native.Mathlib.Omega.{arith}
-use lib.ListN.{length, get_or, length-set}
-use borrow.Author.Rules.{rules}
+use mathlib.Core.Path.{◌≡◌}
+use Prim.Native.Nat.{◌-◌, ◌≤◌}
+use lib.ListN.{length, get_or}
 use Rattle.field.specs.Byte.{double}
-use Rattle.lists.specs.Span.{Span, span_none, span_step}
+use Rattle.lists.specs.Span.{Span}
 use Rattle.kernel.proofs.double_run.Given as goal
 
 abbrev pub invariant-loop-i : goal.invariant-loop-i

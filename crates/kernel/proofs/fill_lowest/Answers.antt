@@ -1,9 +1,9 @@
 -- `kernel::fill_lowest`. The loop keeps: the list names those of the first j runs that have the digit. A turn is `plane-step`.
 use mathlib.Core.Path.{◌≡◌, ◌∙◌, subst}
-use Prim.Native.Nat.{ℕ, ◌+◌, ◌-◌, ◌≤◌}
+use Prim.Native.Nat.{ℕ, ◌+◌}
 use native.Mathlib.Nat.{zero-add}
 use native.Mathlib.Omega.{arith}
-use lib.ListN.{length, get_or, set, length-set}
+use lib.ListN.{get_or, set, length-set}
 use Rattle.kernel.specs.Fill.{Plane, plane-start, plane-step}
 use Rattle.kernel.proofs.fill_lowest.Goals as goal
 

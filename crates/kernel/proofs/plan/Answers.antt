@@ -1,8 +1,8 @@
 -- `kernel::plan`. The loop keeps: the first j sources stand in the lists of all eight digits. Factors of one digit need the lowest list alone.
 use mathlib.Core.Path.{◌≡◌, refl, subst}
-use Prim.Native.Nat.{ℕ, ◌-◌, ◌≤◌}
+use Prim.Native.Nat.{ℕ}
 use native.Mathlib.Omega.{arith}
-use lib.ListN.{length, replicate}
+use lib.ListN.{replicate}
 use Rattle.kernel.specs.Fill.{Planes, planes_start, planes_lowest}
 use Rattle.kernel.proofs.plan.Goals as goal
 
@@ -14,7 +14,7 @@ bounds-counts-0 c = omega arith
 
 pub returns-then-top-lt2 : goal.returns-then-top-lt2
 returns-then-top-lt2 c = let a = c.args in
-    planes_lowest a.starts.now a.coefs.now a.n c.fill_lowest-c.new.0 (replicate 8 0) c.fill_lowest-c.result a.top (omega arith) (omega (arith, c.if-top-lt2.true)) c.fill_lowest-c.ensures
+    planes_lowest a.starts.now a.coefs.now a.n c.fill_lowest-c.new.list (replicate 8 0) c.fill_lowest-c.result a.top (omega arith) (omega (arith, c.if-top-lt2.true)) c.fill_lowest-c.ensures
 
 pub loop-j-init : goal.loop-j-init
 loop-j-init c = (omega arith, c.requires.0, refl, planes_start c.args.starts.now c.args.coefs.now c.args.list.now (replicate 8 0) 8 refl)

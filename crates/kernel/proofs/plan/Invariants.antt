@@ -1,8 +1,7 @@
-use mathlib.Core.Path.{◌≡◌, refl, subst}
-use Prim.Native.Nat.{ℕ, ◌-◌, ◌≤◌}
-use native.Mathlib.Omega.{arith}
-use lib.ListN.{length, replicate}
-use Rattle.kernel.specs.Fill.{Planes, planes_start, planes_lowest}
+use mathlib.Core.Path.{◌≡◌}
+use Prim.Native.Nat.{◌-◌, ◌≤◌}
+use lib.ListN.{length}
+use Rattle.kernel.specs.Fill.{Planes}
 use Rattle.kernel.proofs.plan.Given as goal
 
 abbrev pub invariant-loop-j : goal.invariant-loop-j

@@ -1,8 +1,6 @@
-use mathlib.Core.Path.{◌≡◌, ap, subst}
-use Prim.Native.Nat.{ℕ, ◌+◌, ◌-◌, ◌≤◌}
-use native.Mathlib.Omega.{arith}
+use Prim.Native.Nat.{◌+◌, ◌-◌, ◌≤◌}
 use lib.ListN.{get_or}
-use Rattle.lists.specs.Span.{Span, span_none, span_step}
+use Rattle.lists.specs.Span.{Span}
 use Rattle.kernel.proofs.put_block.Given as goal
 
 abbrev pub invariant-loop-i : goal.invariant-loop-i

@@ -4,7 +4,6 @@ use Prim.Native.Nat.{◌+◌, ◌-◌}
 use native.Mathlib.Omega.{arith}
 use Rattle.kernel.specs.Plan.{planned}
 use Rattle.kernel.specs.Combine.{block_span, reach_to}
-use borrow.Author.Rules.{rules}
 use Rattle.kernel.proofs.put_rest_of.Goals as goal
 
 pub block-b-requires : goal.block-b-requires

@@ -1,15 +1,16 @@
 -- `kernel::spread`. The loop keeps: the source stands in the lists of the digits below k. A turn is `spread_step`.
-use mathlib.Core.Path.{◌≡◌, ◌∙◌}
-use Prim.Native.Nat.{◌-◌, ◌≤◌}
+use mathlib.Core.Path.{◌∙◌}
+use Prim.Native.Nat.{ℕ, ◌<◌, ◌≤◌}
+use Rattle.std.specs.Prelude.{List}
 use native.Mathlib.Nat.{le_refl, not-suc-le-zero}
 use native.Mathlib.Omega.{arith}
-use lib.ListN.{length, get_or, length-set}
+use lib.ListN.{get_or, length-set}
 use Rattle.kernel.specs.Fill.{Spread, spread_step}
 use Rattle.kernel.proofs.spread.Goals as goal
 
 -- the lists have room for one source more
-room : (c : goal.After-q-1) → get_or c.loop-k.counts c.loop-k.k 0 ≤ c.args.j
-room c = (c.loop-k.invariant.3.left c.loop-k.k (le_refl _) c.loop-k-test.true).few
+room : {starts coefs list counts : List ℕ} {j k : ℕ} → k < 8 → Spread starts coefs j list counts k → get_or counts k 0 ≤ j
+room h s = (s.left _ (le_refl _) h).few
 
 pub offset_bounds-starts-j : goal.offset_bounds-starts-j
 offset_bounds-starts-j c = omega arith
@@ -33,19 +34,19 @@ pub overflow_mul-list : goal.overflow_mul-list
 overflow_mul-list c = omega arith
 
 pub overflow_add-list : goal.overflow_add-list
-overflow_add-list c = omega (arith, room c)
+overflow_add-list c = omega (arith, room c.loop-k-test.true c.loop-k.invariant.3)
 
 pub offset_bounds-list-k : goal.offset_bounds-list-k
-offset_bounds-list-k c = omega (arith, room c)
+offset_bounds-list-k c = omega (arith, room c.loop-k-test.true c.loop-k.invariant.3)
 
 pub bounds-list-k : goal.bounds-list-k
-bounds-list-k c = omega (arith, room c)
+bounds-list-k c = omega (arith, room c.loop-k-test.true c.loop-k.invariant.3)
 
 pub digit-requires : goal.digit-requires
 digit-requires c = omega arith
 
 pub overflow_add-counts : goal.overflow_add-counts
-overflow_add-counts c = omega (arith, room c.before)
+overflow_add-counts c = omega (arith, room c.loop-k-test.true c.loop-k.invariant.3)
 
 pub offset_bounds-counts-k-in-loop-k : goal.offset_bounds-counts-k-in-loop-k
 offset_bounds-counts-k-in-loop-k c = omega arith

@@ -1,9 +1,7 @@
-use mathlib.Core.Path.{◌≡◌, ◌∙◌}
+use mathlib.Core.Path.{◌≡◌}
 use Prim.Native.Nat.{◌-◌, ◌≤◌}
-use native.Mathlib.Nat.{le_refl, not-suc-le-zero}
-use native.Mathlib.Omega.{arith}
-use lib.ListN.{length, get_or, length-set}
-use Rattle.kernel.specs.Fill.{Spread, spread_step}
+use lib.ListN.{length}
+use Rattle.kernel.specs.Fill.{Spread}
 use Rattle.kernel.proofs.spread.Given as goal
 
 abbrev pub invariant-loop-k : goal.invariant-loop-k

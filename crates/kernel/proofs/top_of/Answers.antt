@@ -1,8 +1,6 @@
 -- `kernel::top_of`. The loop keeps: no factor passed is above `most`.
-use Prim.Native.Nat.{ℕ, ◌-◌, ◌<◌, ◌≤◌}
 use native.Mathlib.Nat.{not-suc-le-zero}
 use native.Mathlib.Omega.{arith}
-use lib.ListN.{get_or}
 use Rattle.kernel.specs.Fill.{most_step}
 use Rattle.kernel.proofs.top_of.Goals as goal
 

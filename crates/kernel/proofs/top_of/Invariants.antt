@@ -1,8 +1,5 @@
 use Prim.Native.Nat.{ℕ, ◌-◌, ◌<◌, ◌≤◌}
-use native.Mathlib.Nat.{not-suc-le-zero}
-use native.Mathlib.Omega.{arith}
 use lib.ListN.{get_or}
-use Rattle.kernel.specs.Fill.{most_step}
 use Rattle.kernel.proofs.top_of.Given as goal
 
 abbrev pub invariant-loop-j : goal.invariant-loop-j

@@ -1,10 +1,9 @@
 -- `kernel::xor_run`. The loop keeps: the bytes before i have the run added, the others are as they were.
 use mathlib.Core.Path.{◌≡◌, refl, ap, ◌∙◌, subst}
-use Prim.Native.Nat.{ℕ, ◌+◌, ◌-◌, ◌≤◌}
+use Prim.Native.Nat.{ℕ, ◌+◌}
 use native.Mathlib.Omega.{arith}
-use lib.ListN.{length, get_or, length-set}
+use lib.ListN.{get_or, length-set}
 use lib.Bits.{bit_xor}
-use borrow.Author.Rules.{rules}
 use Rattle.field.specs.Byte.{◌⊕◌}
 use Rattle.lists.specs.Span.{Span, span_none, span_step}
 use Rattle.kernel.proofs.xor_run.Goals as goal
