@@ -1,0 +1,9 @@
+-- What a lookup makes of what was found is what the documents say.
+use Rattle.std.proofs.Common.{ap, ◌∙◌}
+use Rattle.entries.specs.Plans.{answer_of}
+use Rattle.entries.specs.Looks.{looked_up}
+use Rattle.catalogue.proofs.lookup.Goals as goal
+
+pub returns : goal.returns
+returns c =
+    record { answer = c.answer.ensures ∙ ap answer_of c.scan-x.ensures ∙ looked_up c.args.key c.args.n c.args.s.now }
