@@ -2,15 +2,10 @@
 use mathlib.Core.Path.{refl}
 use borrow.Author.Rules.{rules}
 use Rattle.plan.specs.Whole.{whole_solvable, whole_ranks, whole_slots, whole-rows, whole-gone}
-use Rattle.plan.proofs.plan_whole.Statement.{statement}
-use Rattle.plan.proofs.plan_whole.Tie as tie
+use Rattle.plan.proofs.plan_whole.Goals as goal
 
-codes-requires : tie.Need-codes-requires
-codes-requires c κs = search rules
-
-returns : tie.Need-returns
-returns c =
-    let p = c.before.requires in
+pub returns : goal.returns
+returns c = let p = c.requires in
     record {
       n_is = refl;
       k_is = refl;
@@ -22,10 +17,7 @@ returns c =
         ranks = whole_ranks _ _ p.0 p.1;
         slots_are = whole_slots _ _ p.0 p.1;
         rows_are = λ q h. absurd (whole-rows _ _ p.0 p.1 q h);
-        codes_are = c.codes.ensures;
+        codes_are = c.codes-codes.ensures;
         gone_is = whole-gone _ _ p.0 p.1;
       };
     }
-
-pub plan-whole-spec : {M : Type 1} → statement M
-plan-whole-spec = tie.close (tie.spec codes-requires returns)

@@ -1,0 +1,48 @@
+-- `plan::ranks`. The loop keeps: the ranks below i, and how many contents below i are missing.
+use mathlib.Core.Path.{◌≡◌, refl, sym, ap₂, ◌∙◌}
+use Prim.Native.Nat.{ℕ, ◌+◌, ◌-◌, ◌<◌, ◌≤◌}
+use native.Mathlib.Nat.{not-suc-le-zero}
+use native.Mathlib.Omega.{arith}
+use lib.ListN.{length, get_or, length-set}
+use Rattle.lists.specs.Count.{count, count-le, count_next}
+use Rattle.lists.specs.Pick.{bit_le}
+use Rattle.lists.specs.Tabulate.{fill_step}
+use Rattle.parity.specs.Matrix.{flag}
+use Rattle.plan.proofs.ranks.Goals as goal
+
+pub loop-i-init : goal.loop-i-init
+unfolding count
+loop-i-init c = (omega arith, refl, refl, λ x h. absurd (not-suc-le-zero h))
+
+pub offset_bounds-r-i : goal.offset_bounds-r-i
+offset_bounds-r-i c = omega arith
+
+pub bounds-r-i : goal.bounds-r-i
+bounds-r-i c = omega arith
+
+pub bounds-miss-i : goal.bounds-miss-i
+bounds-miss-i c = omega arith
+
+pub one_if-c-requires : goal.one_if-c-requires
+one_if-c-requires c = omega arith
+
+pub overflow_add-c : goal.overflow_add-c
+overflow_add-c c = let l = c.loop-i in omega (arith, c.one_if-c.ensures, l.invariant.2, count-le (flag c.args.miss) l.i, bit_le (flag c.args.miss l.i))
+
+pub overflow_add-i : goal.overflow_add-i
+overflow_add-i c = omega arith
+
+pub loop-i-smaller : goal.loop-i-smaller
+loop-i-smaller c = omega arith
+
+pub loop-i-preserved : goal.loop-i-preserved
+loop-i-preserved c = let l = c.loop-i in
+    let miss = flag c.args.miss in (
+      omega arith,
+      length-set l.r l.i _ ∙ l.invariant.1,
+      ap₂ ◌+◌ l.invariant.2 c.one_if-c.ensures ∙ sym (count_next miss l.i),
+      fill_step (count miss) l.r l.i _ 0 (omega arith) l.invariant.2 l.invariant.3,
+    )
+
+pub returns : goal.returns
+returns c = λ i h. c.loop-i.invariant.3 i (omega arith)

@@ -1,0 +1,16 @@
+use mathlib.Core.Path.{◌≡◌, refl, sym, ap₂, ◌∙◌}
+use Prim.Native.Nat.{ℕ, ◌+◌, ◌-◌, ◌<◌, ◌≤◌}
+use native.Mathlib.Nat.{not-suc-le-zero}
+use native.Mathlib.Omega.{arith}
+use lib.ListN.{length, get_or, length-set}
+use Rattle.lists.specs.Count.{count, count-le, count_next}
+use Rattle.lists.specs.Pick.{bit_le}
+use Rattle.lists.specs.Tabulate.{fill_step}
+use Rattle.parity.specs.Matrix.{flag}
+use Rattle.plan.proofs.ranks.Given as goal
+
+abbrev pub invariant-loop-i : goal.invariant-loop-i
+invariant-loop-i l = (l.i ≤ l.m) × (length l.r ≡ 19) × (l.c ≡ count (flag l.miss) l.i) × ((x : ℕ) → x < l.i → get_or l.r x 0 ≡ count (flag l.miss) x)
+
+abbrev pub decreases-loop-i : goal.decreases-loop-i
+decreases-loop-i l = l.m - l.i
