@@ -1,0 +1,22 @@
+-- `homes::failures_refusal`: each branch is one of the ways in which a list is bad, or none is left.
+use mathlib.Core.Path.{sym, ◌∙◌}
+use native.Mathlib.Omega.{arith}
+use Rattle.homes.specs.Steps.{too_many, too_mended, by_entries, refused_by, accepted_by}
+use Rattle.homes.proofs.failures_refusal.Goals as goal
+
+pub returns-then-y-r : goal.returns-then-y-r
+returns-then-y-r c = let a = c.args in too_many a.y a.r c.if-y-r.true
+
+pub returns-then-r : goal.returns-then-r
+returns-then-r c = let a = c.args in too_mended a.y a.r (omega arith) c.if-r.true
+
+pub entries_good-requires : goal.entries_good-requires
+entries_good-requires c = omega arith
+
+pub returns-then-entries_good : goal.returns-then-entries_good
+returns-then-entries_good c = let a = c.args in
+    accepted_by a.y a.r (by_entries a.y a.r (omega arith) (omega arith) ∙ sym c.entries_good.ensures ∙ c.if-entries_good.true)
+
+pub returns-else-entries_good : goal.returns-else-entries_good
+returns-else-entries_good c = let a = c.args in
+    refused_by a.y a.r (by_entries a.y a.r (omega arith) (omega arith) ∙ sym c.entries_good.ensures ∙ c.if-entries_good.false)
