@@ -1,6 +1,5 @@
 -- `hex_text::digit_or_16` meets its contract: the digits are two runs.
 use mathlib.Core.Path.{◌∙◌, ap}
-use borrow.Author.Rules.{rules}
 use Rattle.hex_text.specs.Runs.{decimal_or}
 use Rattle.hex_text.specs.RunLaws.{by_two_runs}
 use Rattle.hex_text.proofs.digit_or_16.Goals as goal

@@ -6,7 +6,6 @@ use native.Mathlib.Nat.{div-one}
 use native.Mathlib.Omega.{arith}
 use Rattle.hex_text.specs.Hex.{hex_digit, line_char}
 use Rattle.hex_text.specs.Runs.{head_of}
-use borrow.Author.Rules.{rules}
 use Rattle.hex_text.proofs.head_char.Goals as goal
 
 known : (t f j k : ℕ) {v : ℕ} → j ≡ k → v ≡ head_of t f k → v ≡ head_of t f j

@@ -1,11 +1,7 @@
 -- `hex_text::head_right` meets its contract: before character j the first j agree.
-use Prim.Native.Nat.{ℕ, ◌+◌, ◌-◌, ◌≤◌, ◌<◌}
-use mathlib.Core.Path.{◌≡◌, sym, ◌∙◌}
-use borrow.Author.Rules.{rules}
+use mathlib.Core.Path.{sym, ◌∙◌}
 use borrow.Author.Count.{below_none, below_more}
 use native.Mathlib.Omega.{arith}
-use lib.ListN.{get_or}
-use Rattle.hex_text.specs.Runs.{head_of}
 use Rattle.hex_text.specs.RunLaws.{heads_yes, heads_no}
 use Rattle.hex_text.proofs.head_right.Goals as goal
 

@@ -1,11 +1,7 @@
 use Prim.Native.Nat.{ℕ, ◌+◌, ◌-◌, ◌≤◌, ◌<◌}
-use mathlib.Core.Path.{◌≡◌, sym, ◌∙◌}
-use borrow.Author.Rules.{rules}
-use borrow.Author.Count.{below_none, below_more}
-use native.Mathlib.Omega.{arith}
+use mathlib.Core.Path.{◌≡◌}
 use lib.ListN.{get_or}
 use Rattle.hex_text.specs.Runs.{head_of}
-use Rattle.hex_text.specs.RunLaws.{heads_yes, heads_no}
 use Rattle.hex_text.proofs.head_right.Given as goal
 
 abbrev pub invariant-loop-j : goal.invariant-loop-j

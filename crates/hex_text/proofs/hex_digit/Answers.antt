@@ -1,5 +1,4 @@
 -- `hex_text::hex_digit` meets its contract: each return is the arm that its test picks.
-use borrow.Author.Rules.{rules}
 use borrow.Author.Tests.{lt-ltb, le-ltb}
 use Rattle.hex_text.specs.Hex.{hex_digit}
 use Rattle.hex_text.proofs.hex_digit.Goals as goal

@@ -1,9 +1,6 @@
 -- `hex_text::is_digits` meets its contract: before character i, the largest value says whether the first i are digits.
-use Prim.Native.Nat.{◌-◌, ◌≤◌}
-use mathlib.Core.Path.{◌≡◌, ◌∙◌, ap}
-use borrow.Author.Rules.{rules}
+use mathlib.Core.Path.{◌∙◌, ap}
 use native.Mathlib.Omega.{arith}
-use lib.Dec.{ltb}
 use Rattle.hex_text.specs.Digit.{digits_at}
 use Rattle.hex_text.specs.NumberLaws.{no_digits, digit_turn}
 use Rattle.hex_text.proofs.is_digits.Goals as goal

@@ -1,10 +1,7 @@
 use Prim.Native.Nat.{◌-◌, ◌≤◌}
-use mathlib.Core.Path.{◌≡◌, ◌∙◌, ap}
-use borrow.Author.Rules.{rules}
-use native.Mathlib.Omega.{arith}
+use mathlib.Core.Path.{◌≡◌}
 use lib.Dec.{ltb}
 use Rattle.hex_text.specs.Digit.{digits_at}
-use Rattle.hex_text.specs.NumberLaws.{no_digits, digit_turn}
 use Rattle.hex_text.proofs.is_digits.Given as goal
 
 abbrev pub invariant-loop-i : goal.invariant-loop-i

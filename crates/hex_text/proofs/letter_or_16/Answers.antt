@@ -1,5 +1,4 @@
 -- `hex_text::letter_or_16` meets its contract: the tests cut the characters where the letters begin and end.
-use borrow.Author.Rules.{rules}
 use Rattle.lists.specs.Part.{within-before, within_in, within-after}
 use Rattle.hex_text.proofs.letter_or_16.Goals as goal
 

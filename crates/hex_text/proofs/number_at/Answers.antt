@@ -1,7 +1,6 @@
 -- `hex_text::number_at` meets its contract: before digit i, the number is what the first i tell.
-use Prim.Native.Nat.{◌+◌, ◌*◌, ◌-◌, ◌%◌, ◌≤◌, ◌<◌}
-use mathlib.Core.Path.{◌≡◌, ◌∙◌, ap}
-use borrow.Author.Rules.{rules}
+use Prim.Native.Nat.{◌+◌, ◌*◌, ◌%◌, ◌<◌}
+use mathlib.Core.Path.{◌∙◌, ap}
 use native.Mathlib.Nat.{mod-lt, zero-lt-suc}
 use native.Mathlib.Omega.{arith}
 use Rattle.hex_text.specs.Digit.{number_at}

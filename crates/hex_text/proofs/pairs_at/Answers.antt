@@ -1,11 +1,7 @@
 -- `hex_text::pairs_at` meets its contract: before pair o the first o are taken.
-use Prim.Native.Nat.{ℕ, ◌+◌, ◌*◌, ◌-◌, ◌≤◌, ◌<◌}
-use mathlib.Core.Path.{◌≡◌, refl, ◌∙◌}
-use borrow.Author.Rules.{rules}
+use mathlib.Core.Path.{refl, ◌∙◌}
 use native.Mathlib.Omega.{arith}
-use lib.ListN.{length, length-set}
-use Rattle.lists.specs.Tabulate.{at}
-use Rattle.hex_text.specs.Tell.{pair_at}
+use lib.ListN.{length-set}
 use Rattle.hex_text.specs.TellLaws.{pairs_turn}
 use Rattle.hex_text.proofs.pairs_at.Goals as goal
 

@@ -1,11 +1,8 @@
 use Prim.Native.Nat.{ℕ, ◌+◌, ◌*◌, ◌-◌, ◌≤◌, ◌<◌}
-use mathlib.Core.Path.{◌≡◌, refl, ◌∙◌}
-use borrow.Author.Rules.{rules}
-use native.Mathlib.Omega.{arith}
-use lib.ListN.{length, length-set}
+use mathlib.Core.Path.{◌≡◌}
+use lib.ListN.{length}
 use Rattle.lists.specs.Tabulate.{at}
 use Rattle.hex_text.specs.Tell.{pair_at}
-use Rattle.hex_text.specs.TellLaws.{pairs_turn}
 use Rattle.hex_text.proofs.pairs_at.Given as goal
 
 abbrev pub invariant-loop-o : goal.invariant-loop-o

@@ -1,13 +1,11 @@
 -- `hex_text::read_unit` meets its contract: before byte o, the largest value says whether the first 2o characters are digits.
-use Prim.Native.Nat.{ℕ, ◌+◌, ◌*◌, ◌-◌, ◌≤◌}
+use Prim.Native.Nat.{ℕ, ◌+◌, ◌*◌}
 use mathlib.Core.Path.{◌≡◌, refl, ◌∙◌, ap, subst}
-use borrow.Author.Rules.{rules}
 use native.Mathlib.Nat.{mod-lt, zero-lt-suc}
 use native.Mathlib.Omega.{arith}
-use lib.Dec.{ltb}
 use lib.ListN.{get_or}
-use Rattle.lists.specs.Span.{Span, span_none, span_to}
-use Rattle.hex_text.specs.Runs.{digit_or16, digits_right, bytes_from}
+use Rattle.lists.specs.Span.{span_none, span_to}
+use Rattle.hex_text.specs.Runs.{digit_or16, digits_right}
 use Rattle.hex_text.specs.RunLaws.{digits_none, digits_turn, bytes_turn}
 use Rattle.hex_text.proofs.read_unit.Goals as goal
 

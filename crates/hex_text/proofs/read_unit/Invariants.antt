@@ -1,13 +1,8 @@
-use Prim.Native.Nat.{ℕ, ◌+◌, ◌*◌, ◌-◌, ◌≤◌}
-use mathlib.Core.Path.{◌≡◌, refl, ◌∙◌, ap, subst}
-use borrow.Author.Rules.{rules}
-use native.Mathlib.Nat.{mod-lt, zero-lt-suc}
-use native.Mathlib.Omega.{arith}
+use Prim.Native.Nat.{◌+◌, ◌*◌, ◌-◌, ◌≤◌}
+use mathlib.Core.Path.{◌≡◌}
 use lib.Dec.{ltb}
-use lib.ListN.{get_or}
-use Rattle.lists.specs.Span.{Span, span_none, span_to}
-use Rattle.hex_text.specs.Runs.{digit_or16, digits_right, bytes_from}
-use Rattle.hex_text.specs.RunLaws.{digits_none, digits_turn, bytes_turn}
+use Rattle.lists.specs.Span.{Span}
+use Rattle.hex_text.specs.Runs.{digits_right, bytes_from}
 use Rattle.hex_text.proofs.read_unit.Given as goal
 
 abbrev pub invariant-loop-o : goal.invariant-loop-o

@@ -1,11 +1,6 @@
 use Prim.Native.Nat.{◌+◌, ◌-◌, ◌≤◌}
-use mathlib.Core.Path.{◌∙◌, ap}
-use borrow.Author.Rules.{rules}
-use native.Mathlib.Omega.{arith}
-use Rattle.lists.specs.Span.{Span, span_none, span_to}
+use Rattle.lists.specs.Span.{Span}
 use Rattle.hex_text.specs.Runs.{bytes_from}
-use Rattle.hex_text.specs.Tell.{told_by}
-use Rattle.hex_text.specs.TellLaws.{tell_turn}
 use Rattle.hex_text.proofs.tell_block.Given as goal
 
 abbrev pub invariant-loop-o : goal.invariant-loop-o

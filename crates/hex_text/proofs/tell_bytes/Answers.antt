@@ -1,10 +1,8 @@
 -- `hex_text::tell_bytes` meets its contract: before byte o the first o bytes are told; block by block, and then the rest.
-use Prim.Native.Nat.{◌+◌, ◌-◌, ◌≤◌}
+use Prim.Native.Nat.{◌-◌}
 use mathlib.Core.Path.{refl, ◌∙◌}
-use borrow.Author.Rules.{rules}
 use native.Mathlib.Omega.{arith}
-use Rattle.lists.specs.Span.{Span, span_none}
-use Rattle.hex_text.specs.Runs.{bytes_from}
+use Rattle.lists.specs.Span.{span_none}
 use Rattle.hex_text.specs.TellLaws.{digits_part, tell_more}
 use Rattle.hex_text.proofs.tell_bytes.Goals as goal
 

@@ -1,10 +1,6 @@
 use Prim.Native.Nat.{◌+◌, ◌-◌, ◌≤◌}
-use mathlib.Core.Path.{refl, ◌∙◌}
-use borrow.Author.Rules.{rules}
-use native.Mathlib.Omega.{arith}
-use Rattle.lists.specs.Span.{Span, span_none}
+use Rattle.lists.specs.Span.{Span}
 use Rattle.hex_text.specs.Runs.{bytes_from}
-use Rattle.hex_text.specs.TellLaws.{digits_part, tell_more}
 use Rattle.hex_text.proofs.tell_bytes.Given as goal
 
 abbrev pub invariant-loop-o : goal.invariant-loop-o

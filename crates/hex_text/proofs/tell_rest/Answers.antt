@@ -1,10 +1,7 @@
 -- `hex_text::tell_rest` meets its contract: before byte o the first o bytes are told.
-use Prim.Native.Nat.{◌+◌, ◌-◌, ◌≤◌}
 use mathlib.Core.Path.{◌∙◌, ap}
-use borrow.Author.Rules.{rules}
 use native.Mathlib.Omega.{arith}
-use Rattle.lists.specs.Span.{Span, span_none, span_to}
-use Rattle.hex_text.specs.Runs.{bytes_from}
+use Rattle.lists.specs.Span.{span_none, span_to}
 use Rattle.hex_text.specs.Tell.{told_by}
 use Rattle.hex_text.specs.TellLaws.{tell_turn}
 use Rattle.hex_text.proofs.tell_rest.Goals as goal

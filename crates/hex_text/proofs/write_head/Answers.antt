@@ -1,9 +1,6 @@
 -- `hex_text::write_head` meets its contract: before character i the first i stand there.
-use Prim.Native.Nat.{◌+◌, ◌-◌, ◌≤◌}
-use borrow.Author.Rules.{rules}
 use native.Mathlib.Omega.{arith}
-use Rattle.lists.specs.Span.{Span, span_none, span_to}
-use Rattle.hex_text.specs.Runs.{head_from}
+use Rattle.lists.specs.Span.{span_none, span_to}
 use Rattle.hex_text.specs.RunLaws.{head_turn}
 use Rattle.hex_text.proofs.write_head.Goals as goal
 

@@ -1,9 +1,6 @@
 use Prim.Native.Nat.{◌+◌, ◌-◌, ◌≤◌}
-use borrow.Author.Rules.{rules}
-use native.Mathlib.Omega.{arith}
-use Rattle.lists.specs.Span.{Span, span_none, span_to}
+use Rattle.lists.specs.Span.{Span}
 use Rattle.hex_text.specs.Runs.{head_from}
-use Rattle.hex_text.specs.RunLaws.{head_turn}
 use Rattle.hex_text.proofs.write_head.Given as goal
 
 abbrev pub invariant-loop-i : goal.invariant-loop-i

@@ -1,7 +1,6 @@
 -- `hex_text::write_number` meets its contract: the digits from place `left` on stand there, and the rest of the number has those before.
-use Prim.Native.Nat.{◌+◌, ◌-◌, ◌/◌, ◌^◌, ◌≤◌}
-use mathlib.Core.Path.{◌≡◌, refl, subst}
-use borrow.Author.Rules.{rules}
+use Prim.Native.Nat.{◌+◌}
+use mathlib.Core.Path.{refl, subst}
 use native.Mathlib.Nat.{mod-lt, zero-lt-suc}
 use native.Mathlib.Omega.{arith}
 use Rattle.lists.specs.Span.{Span}

@@ -1,10 +1,7 @@
 use Prim.Native.Nat.{◌+◌, ◌-◌, ◌/◌, ◌^◌, ◌≤◌}
-use mathlib.Core.Path.{◌≡◌, refl, subst}
-use borrow.Author.Rules.{rules}
-use native.Mathlib.Nat.{mod-lt, zero-lt-suc}
-use native.Mathlib.Omega.{arith}
+use mathlib.Core.Path.{◌≡◌}
 use Rattle.lists.specs.Span.{Span}
-use Rattle.hex_text.specs.DigitsLaws.{hex_digit_from, rest_whole, none_written, number_write_turn, rest_turn, digits_put}
+use Rattle.hex_text.specs.DigitsLaws.{hex_digit_from}
 use Rattle.hex_text.proofs.write_number.Given as goal
 
 abbrev pub invariant-loop-left : goal.invariant-loop-left

@@ -1,11 +1,7 @@
 -- `hex_text::write_unit` meets its contract: before byte o the digits of the first o bytes stand there.
-use Prim.Native.Nat.{◌+◌, ◌*◌, ◌-◌, ◌≤◌}
-use mathlib.Core.Path.{◌≡◌}
-use borrow.Author.Rules.{rules}
 use native.Mathlib.Omega.{arith}
 use lib.ListN.{length-set}
-use Rattle.lists.specs.Span.{Span, span_none, span_to}
-use Rattle.hex_text.specs.Runs.{unit_from}
+use Rattle.lists.specs.Span.{span_none, span_to}
 use Rattle.hex_text.specs.RunLaws.{unit_turn}
 use Rattle.hex_text.proofs.write_unit.Goals as goal
 

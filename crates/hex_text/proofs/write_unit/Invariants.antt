@@ -1,11 +1,7 @@
 use Prim.Native.Nat.{◌+◌, ◌*◌, ◌-◌, ◌≤◌}
 use mathlib.Core.Path.{◌≡◌}
-use borrow.Author.Rules.{rules}
-use native.Mathlib.Omega.{arith}
-use lib.ListN.{length-set}
-use Rattle.lists.specs.Span.{Span, span_none, span_to}
+use Rattle.lists.specs.Span.{Span}
 use Rattle.hex_text.specs.Runs.{unit_from}
-use Rattle.hex_text.specs.RunLaws.{unit_turn}
 use Rattle.hex_text.proofs.write_unit.Given as goal
 
 abbrev pub invariant-loop-o : goal.invariant-loop-o
