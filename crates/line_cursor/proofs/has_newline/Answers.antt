@@ -1,7 +1,5 @@
 -- `line_cursor::has_newline` meets its contract: before byte i it is known whether one of the first i is a newline.
-use Prim.Native.Nat.{◌-◌, ◌≤◌}
-use mathlib.Core.Path.{◌≡◌, ◌∙◌, ap}
-use borrow.Author.Rules.{rules}
+use mathlib.Core.Path.{◌∙◌, ap}
 use native.Mathlib.Omega.{arith}
 use Rattle.line_cursor.specs.Lines.{newline_within}
 use Rattle.line_cursor.specs.StepLaws.{within_none, within_turn}

@@ -1,9 +1,6 @@
 use Prim.Native.Nat.{◌-◌, ◌≤◌}
-use mathlib.Core.Path.{◌≡◌, ◌∙◌, ap}
-use borrow.Author.Rules.{rules}
-use native.Mathlib.Omega.{arith}
+use mathlib.Core.Path.{◌≡◌}
 use Rattle.line_cursor.specs.Lines.{newline_within}
-use Rattle.line_cursor.specs.StepLaws.{within_none, within_turn}
 use Rattle.line_cursor.proofs.has_newline.Given as goal
 
 abbrev pub invariant-loop-i : goal.invariant-loop-i

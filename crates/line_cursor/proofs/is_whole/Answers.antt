@@ -1,5 +1,4 @@
 -- `line_cursor::is_whole` meets its contract: a line of no bytes is not whole, of another the last byte tells.
-use borrow.Author.Rules.{rules}
 use Rattle.line_cursor.specs.StepLaws.{whole-none, whole_by_last}
 use Rattle.line_cursor.proofs.is_whole.Goals as goal
 

@@ -1,10 +1,6 @@
 -- `line_cursor::line_end` meets its contract: before each byte of the last block the line ends where one that began there would.
-use Prim.Native.Nat.{◌-◌, ◌≤◌}
-use mathlib.Core.Path.{◌≡◌, sym, ◌∙◌}
-use borrow.Author.Rules.{rules}
+use mathlib.Core.Path.{sym, ◌∙◌}
 use native.Mathlib.Omega.{arith}
-use lib.ListN.{length}
-use Rattle.line_cursor.specs.Lines.{line_end}
 use Rattle.line_cursor.specs.StepLaws.{end_newline, end-other, end-all}
 use Rattle.line_cursor.proofs.line_end.Goals as goal
 

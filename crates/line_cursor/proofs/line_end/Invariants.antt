@@ -1,10 +1,7 @@
 use Prim.Native.Nat.{◌-◌, ◌≤◌}
-use mathlib.Core.Path.{◌≡◌, sym, ◌∙◌}
-use borrow.Author.Rules.{rules}
-use native.Mathlib.Omega.{arith}
+use mathlib.Core.Path.{◌≡◌}
 use lib.ListN.{length}
 use Rattle.line_cursor.specs.Lines.{line_end}
-use Rattle.line_cursor.specs.StepLaws.{end_newline, end-other, end-all}
 use Rattle.line_cursor.proofs.line_end.Given as goal
 
 abbrev pub invariant-loop-at : goal.invariant-loop-at

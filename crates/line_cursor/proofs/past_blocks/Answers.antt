@@ -1,9 +1,6 @@
 -- `line_cursor::past_blocks` meets its contract: before each block the line ends where one that began there would.
-use Prim.Native.Nat.{◌-◌, ◌≤◌}
-use mathlib.Core.Path.{◌≡◌, refl, sym, ◌∙◌}
+use mathlib.Core.Path.{refl, sym, ◌∙◌}
 use native.Mathlib.Omega.{arith}
-use lib.ListN.{length}
-use Rattle.line_cursor.specs.Lines.{line_end}
 use Rattle.line_cursor.specs.StepLaws.{end-block}
 use Rattle.line_cursor.proofs.past_blocks.Goals as goal
 

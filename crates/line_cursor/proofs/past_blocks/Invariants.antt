@@ -1,9 +1,7 @@
 use Prim.Native.Nat.{◌-◌, ◌≤◌}
-use mathlib.Core.Path.{◌≡◌, refl, sym, ◌∙◌}
-use native.Mathlib.Omega.{arith}
+use mathlib.Core.Path.{◌≡◌}
 use lib.ListN.{length}
 use Rattle.line_cursor.specs.Lines.{line_end}
-use Rattle.line_cursor.specs.StepLaws.{end-block}
 use Rattle.line_cursor.proofs.past_blocks.Given as goal
 
 abbrev pub invariant-loop-at : goal.invariant-loop-at
