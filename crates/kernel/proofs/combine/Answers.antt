@@ -7,7 +7,8 @@ use lib.ListN.{length, get_or}
 use Rattle.field.specs.Byte.{◌⊕◌}
 use Rattle.lists.specs.Span.{span_none, span_cong}
 use Rattle.kernel.specs.Plan.{planned}
-use Rattle.kernel.specs.Combine.{block_span, add_turn, add_none, planned-sum, reach, reach_to}
+use Rattle.kernel.specs.Combine.{block_span, add_turn, reach_to}
+use Rattle.kernel.proofs.Sums.{add_none, planned-sum, reach}
 use Rattle.kernel.proofs.combine.Goals as goal
 
 pub top_of-top-requires : goal.top_of-top-requires

@@ -6,8 +6,8 @@ use native.Mathlib.Omega.{arith}
 use lib.ListN.{length}
 use Rattle.lists.specs.Span.{span_none}
 use Rattle.kernel.specs.Plan.{planned}
-use Rattle.kernel.specs.Combine.{block_span, planned-sum, reach, reach_to}
-use Rattle.kernel.specs.InPlace.{put_turn, put_again, put_both}
+use Rattle.kernel.specs.Combine.{block_span, reach_to}
+use Rattle.kernel.proofs.Sums.{planned-sum, put_again, put_both, put_turn, reach}
 use Rattle.kernel.proofs.combine_in.Goals as goal
 
 pub top_of-top-requires : goal.top_of-top-requires

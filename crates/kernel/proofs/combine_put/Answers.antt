@@ -6,7 +6,8 @@ use native.Mathlib.Omega.{arith}
 use lib.ListN.{length}
 use Rattle.lists.specs.Span.{span_none, span_cong, span_join}
 use Rattle.kernel.specs.Plan.{planned}
-use Rattle.kernel.specs.Combine.{block_span, span_over, span_again, planned-sum, reach, reach_to}
+use Rattle.kernel.specs.Combine.{block_span, span_over, span_again, reach_to}
+use Rattle.kernel.proofs.Sums.{planned-sum, reach}
 use Rattle.kernel.proofs.combine_put.Goals as goal
 
 pub top_of-top-requires : goal.top_of-top-requires
