@@ -4,7 +4,7 @@ use Rattle.std.proofs.Common.{sym, ap, ap₂, ◌∙◌, ⊎_elim, le_trans, ari
 use Rattle.std.proofs.lemmas.List.{get_or-replicate}
 use Rattle.lists.specs.Pick.{pick, pick_true, pick-false, either_way, equal_or_not}
 use Rattle.field.specs.Byte.{mul}
-use Rattle.field.specs.Laws.{one-mul}
+use Rattle.field.proofs.Laws.{one-mul}
 use Rattle.field.specs.Sum.{sum_to, sum_cong}
 use Rattle.kernel.specs.Combine.{sum_at}
 use Rattle.kernel.specs.InPlace.{Apart}

@@ -3,7 +3,7 @@ use Rattle.std.specs.Prelude.{◌≡◌, refl, ℕ, zero, suc, ◌+◌, ◌-◌,
 use Rattle.std.proofs.Common.{sym, ap, ap₂, ◌∙◌, mod-eq_of_lt, zero-lt-suc, suc-ne-zero, add-zero, add-suc, arith, lit<}
 use Rattle.std.specs.Int.Bits.{xor_zero_r}
 use Rattle.field.specs.Byte.{double, scale, mul_digits, mul, inv, power_digits}
-use Rattle.field.specs.Laws.{double-lt, mul_assoc, mul-one, mul-inv, mul_left_inj, no_zero_divisors, inv-lt}
+use Rattle.field.specs.Laws.{mul-one, mul-inv}
 
 -- 2 to the n: the first is 1, and each next is twice the one before
 unfoldable pub power : ℕ → ℕ
@@ -11,54 +11,17 @@ power zero = 1
 power (suc n) = double (power n)
 
 -- twice a byte is its product with 2
-double-mul : (a : ℕ) → a < 256 → double a ≡ mul a 2
+pub double-mul : (a : ℕ) → a < 256 → double a ≡ mul a 2
 unfolding mul mul_digits scale
 double-mul a h = sym (xor_zero_r _ ∙ ap double (mod-eq_of_lt h))
 
-pub power-lt : (n : ℕ) → power n < 256
-unfolding power
-power-lt zero = lit< tt
-power-lt (suc n) = double-lt (power n)
-
-positive : (a : ℕ) → (a ≡ 0 → ⊥) → 0 < a
+pub positive : (a : ℕ) → (a ≡ 0 → ⊥) → 0 < a
 positive zero d = absurd (d refl)
 positive (suc a) d = zero-lt-suc a
-
--- no power is 0
-pub power_pos : (n : ℕ) → 0 < power n
-unfolding power
-power_pos zero = zero-lt-suc 0
-power_pos (suc n) =
-    positive (double (power n))
-    (λ e. suc-ne-zero 1 (no_zero_divisors (power n) 2 (power-lt n) (lit< tt) (power_pos n) (sym (double-mul (power n) (power-lt n)) ∙ e)))
-
--- the exponents add
-pub power-add : (m n : ℕ) → power (m + n) ≡ mul (power m) (power n)
-unfolding power
-power-add m zero = ap power (add-zero m) ∙ sym (mul-one (power m) (power-lt m))
-power-add m (suc n) =
-    ap power (add-suc m n) ∙ double-mul (power (m + n)) (power-lt (m + n)) ∙ ap (λ (x : ℕ). mul x 2) (power-add m n)
-    ∙ mul_assoc (power m) (power n) 2 ∙ ap (mul (power m)) (sym (double-mul (power n) (power-lt n)))
 
 pub power_255 : power 255 ≡ 1
 unfolding power double
 power_255 = refl
-
--- so 255 may be taken off an exponent
-pub power_turn : (n : ℕ) → power (n + 255) ≡ power n
-power_turn n = power-add n 255 ∙ ap (mul (power n)) power_255 ∙ mul-one (power n) (power-lt n)
-
--- the product of two powers
-pub mul_powers : (m n a b : ℕ) → power m ≡ a → power n ≡ b → power (m + n) ≡ mul a b
-mul_powers m n a b ea eb = power-add m n ∙ ap₂ mul ea eb
-
--- the inverse of a power
-pub inv-power : (n a : ℕ) → n ≤ 255 → power n ≡ a → power (255 - n) ≡ inv a
-inv-power n a h e =
-    let whole : n + (255 - n) ≡ 255 = omega arith in
-    mul_left_inj (power n) (power (255 - n)) (inv (power n)) (power-lt n) (power-lt (255 - n)) (inv-lt (power n)) (power_pos n)
-    (sym (power-add n (255 - n)) ∙ ap power whole ∙ power_255 ∙ sym (mul-inv (power n) (power-lt n) (power_pos n)))
-    ∙ ap inv e
 
 pub inv-zero : inv 0 ≡ 0
 unfolding inv power_digits mul mul_digits scale double

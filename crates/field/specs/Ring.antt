@@ -5,7 +5,7 @@ use Rattle.std.proofs.lemmas.Nat.{xor_comm, xor_lt}
 use Rattle.std.specs.Int.Bits.{xor_self, xor_zero_r}
 use Rattle.field.specs.Byte.{◌⊕◌, mul}
 use Rattle.field.specs.Xor.{xor_assoc, xor-left_comm, xor_cancel}
-use Rattle.field.specs.Laws.{mul_comm, mul_assoc, mul_left_comm, mul-xor, xor-mul, mul-zero, zero-mul}
+use Rattle.field.specs.Laws.{mul-xor, mul-zero}
 
 pub ⊕-comm : (a b : ℕ) → a ⊕ b ≡ b ⊕ a
 unfolding ◌⊕◌
@@ -42,9 +42,3 @@ unfolding ◌⊕◌
 pub mul_⊕ : (a b c : ℕ) → mul a (b ⊕ c) ≡ mul a b ⊕ mul a c
 unfolding ◌⊕◌
 mul_⊕ a b c = mul-xor a b c
-
-pub ⊕-mul : (a b c : ℕ) → mul (a ⊕ b) c ≡ mul a c ⊕ mul b c
-unfolding ◌⊕◌
-⊕-mul a b c = xor-mul a b c
-
-pub ruleset ring = (⊕-comm, ⊕-assoc, ⊕-left-comm, ⊕-self, ⊕-cancel, ⊕-zero, zero_⊕, mul_comm, mul_assoc, mul_left_comm, mul_⊕, ⊕-mul, mul-zero, zero-mul)

@@ -4,7 +4,7 @@ use Rattle.std.proofs.Common.{sym, ap, ap₂, ◌∙◌, le_trans, le_refl, lit<
 use Rattle.std.proofs.Math.Nat.{le-suc}
 use Rattle.field.specs.Byte.{◌⊕◌, mul}
 use Rattle.field.specs.Laws.{mul-zero}
-use Rattle.field.specs.Ring.{ring, ⊕-zero, ⊕-lt, mul_⊕}
+use Rattle.field.specs.Ring.{⊕-zero, ⊕-lt, mul_⊕}
 
 unfoldable pub sum_to : ℕ → (ℕ → ℕ) → ℕ
 sum_to zero f = 0
@@ -24,14 +24,6 @@ pub sum_lt : (n : ℕ) (f : ℕ → ℕ) → ((j : ℕ) → f j < 256) → sum_t
 unfolding sum_to
 sum_lt zero f h = lit< tt
 sum_lt (suc n) f h = ⊕-lt (sum_to n f) (f n) (sum_lt n f h) (h n)
-
-swap : (a b c d : ℕ) → (a ⊕ b) ⊕ (c ⊕ d) ≡ (a ⊕ c) ⊕ (b ⊕ d)
-swap a b c d = simp ring
-
-pub sum-add : (n : ℕ) (f g : ℕ → ℕ) → sum_to n (λ j. f j ⊕ g j) ≡ sum_to n f ⊕ sum_to n g
-unfolding sum_to
-sum-add zero f g = sym (⊕-zero 0)
-sum-add (suc n) f g = ap (◌⊕ (f n ⊕ g n)) (sum-add n f g) ∙ swap (sum_to n f) (sum_to n g) (f n) (g n)
 
 pub sum-mul : (n a : ℕ) (f : ℕ → ℕ) → mul a (sum_to n f) ≡ sum_to n (λ j. mul a (f j))
 unfolding sum_to

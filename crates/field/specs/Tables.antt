@@ -4,7 +4,7 @@ use Rattle.std.proofs.Common.{sym, ap, ◌∙◌, subst, not-suc-le-zero, le_of_
 use Rattle.lists.specs.Pick.{both, both_true}
 use Rattle.lists.specs.Bijection.{Bijection, undone_is_bijection}
 use Rattle.field.specs.Byte.{double}
-use Rattle.field.specs.Powers.{power, power-lt, power_pos}
+use Rattle.field.specs.Powers.{power}
 
 -- entry n of a table of powers is 2 to the n
 pub record Powers (t : List ℕ) : Type 0 where
@@ -60,18 +60,3 @@ logs_by_test t e =
     record { index_at = λ n h. ap (λ (x : ℕ). get_or t (power x) 0) (sym (zero-add n)) ∙ indexed-at t 255 0 e n h ∙ zero-add n }
 
 -- ---- the logarithm of a byte other than 0 gives the byte back: 255 powers that differ are all of them
-
-module _ (t : List ℕ) (logs : Logs t) where
-  all_bytes : Bijection 255 (λ n. power n - 1) (λ a. get_or t (suc a) 0)
-  all_bytes =
-      undone_is_bijection 255 (λ n. power n - 1) (λ a. get_or t (suc a) 0) (λ n h. omega (arith, power-lt n, power_pos n))
-      (λ n h. let e : suc (power n - 1) ≡ power n = omega (arith, power_pos n) in ap (λ (x : ℕ). get_or t x 0) e ∙ logs.index_at n h)
-
-  pub log_power : (a : ℕ) → 0 < a → a < 256 → (get_or t a 0 < 255) × (power (get_or t a 0) ≡ a)
-  log_power a p h = subst (λ (x : ℕ). (get_or t x 0 < 255) × (power (get_or t x 0) ≡ x)) e (all_bytes.from (a - 1) (omega arith), back)
-    where
-      e : suc (a - 1) ≡ a
-      e = omega arith
-
-      back : power (get_or t (suc (a - 1)) 0) ≡ suc (a - 1)
-      back = let b = all_bytes.forth (a - 1) (omega arith) in omega (arith, b, power_pos (get_or t (suc (a - 1)) 0))

@@ -6,7 +6,7 @@ use Rattle.std.proofs.Math.Nat.{le-suc, div-eq_of_lt, pow-le-pow_right}
 use Rattle.field.specs.Ring.{⊕-zero}
 use Rattle.std.proofs.Math.ListN.{get_or}
 use Rattle.field.specs.Byte.{◌⊕◌, scale, mul}
-use Rattle.field.specs.Laws.{zero-mul}
+use Rattle.field.proofs.Laws.{zero-mul}
 use Rattle.field.specs.Sum.{sum_to, sum_cong, sum-zero}
 use Rattle.lists.specs.Span.{Span, span_cong}
 use Rattle.kernel.specs.Horner.{poly_cong, plane, horner}

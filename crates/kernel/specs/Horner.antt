@@ -4,8 +4,10 @@ use Rattle.std.proofs.Common.{sym, ap, ap₂, ◌∙◌, le_refl, mod-eq_of_lt, 
 use Rattle.std.specs.Int.Bits.{bit_xor}
 use Rattle.std.proofs.lemmas.Nat.{xor_comm}
 use Rattle.field.specs.Byte.{◌⊕◌, double, scale, mul_digits, mul}
-use Rattle.field.specs.Laws.{double-add, double-zero, mul_comm}
-use Rattle.field.specs.Ring.{ring, ⊕-zero}
+use Rattle.field.specs.Laws.{double-zero}
+use Rattle.field.proofs.Laws.{double-add, mul_comm}
+use Rattle.field.specs.Ring.{⊕-zero}
+use Rattle.field.proofs.RingLaws.{ring}
 use Rattle.field.specs.Sum.{sum_to, sum_cong}
 
 -- f k + 2 (f (k + 1) + 2 (.. f (k + n - 1)))

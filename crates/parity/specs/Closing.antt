@@ -11,8 +11,9 @@ use Rattle.lists.specs.Pick.{pick, pick_true, pick-false, either_way}
 use Rattle.lists.specs.Count.{count}
 use Rattle.lists.specs.Those.{length-those, those-lt, those_hold, those-place, those_rank}
 use Rattle.field.specs.Byte.{◌⊕◌, mul}
-use Rattle.field.specs.Laws.{mul-one, one-mul}
-use Rattle.field.specs.Ring.{ring}
+use Rattle.field.specs.Laws.{mul-one}
+use Rattle.field.proofs.Laws.{one-mul}
+use Rattle.field.proofs.RingLaws.{ring}
 use Rattle.field.specs.Sum.{sum_to, sum_cong}
 use Rattle.systems.specs.Coef.{coef, coef-row}
 use Rattle.systems.specs.Matrix.{ent}

@@ -5,7 +5,8 @@ use Rattle.std.proofs.Math.Nat.{add-sub_cancel_left}
 use Rattle.lists.specs.Pick.{pick, pick_true, pick-false, below_or_not}
 use Rattle.lists.specs.Those.{those}
 use Rattle.field.specs.Byte.{◌⊕◌, mul}
-use Rattle.field.specs.Ring.{ring, ⊕-assoc, ⊕-zero, zero_⊕}
+use Rattle.field.specs.Ring.{⊕-assoc, ⊕-zero, zero_⊕}
+use Rattle.field.proofs.RingLaws.{ring}
 use Rattle.field.specs.Sum.{sum_to, sum3, sum_cong}
 use Rattle.systems.specs.Coef.{coef}
 use Rattle.parity.specs.Group.{parity_of, content}

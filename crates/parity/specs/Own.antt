@@ -9,7 +9,7 @@ use Rattle.lists.specs.Pick.{pick, bit, pick-false, either_way, below_or_not}
 use Rattle.lists.specs.Count.{count_next, count_mono, count-zero}
 use Rattle.lists.specs.Those.{length-those}
 use Rattle.field.specs.Byte.{◌⊕◌, mul}
-use Rattle.field.specs.Ring.{ring}
+use Rattle.field.proofs.RingLaws.{ring}
 use Rattle.field.specs.Sum.{sum3}
 use Rattle.systems.specs.Coef.{coef}
 use Rattle.systems.specs.Matrix.{ent}

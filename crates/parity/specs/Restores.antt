@@ -9,8 +9,10 @@ use Rattle.lists.specs.Pick.{pick, pick_true, pick-false, both, below_or_not, cl
 use Rattle.lists.specs.Count.{count, count_add, count-not}
 use Rattle.lists.specs.Those.{length-those, those-lt, those_asc, those_hold, those-place, those_rank}
 use Rattle.field.specs.Byte.{◌⊕◌, mul}
-use Rattle.field.specs.Laws.{mul-zero, zero-mul, mul-lt}
-use Rattle.field.specs.Ring.{ring, zero_⊕, ⊕-lt}
+use Rattle.field.specs.Laws.{mul-zero}
+use Rattle.field.proofs.Laws.{zero-mul, mul-lt}
+use Rattle.field.specs.Ring.{zero_⊕, ⊕-lt}
+use Rattle.field.proofs.RingLaws.{ring}
 use Rattle.field.specs.Sum.{sum_to, sum_cong, sum_lt}
 use Rattle.systems.specs.Coef.{coef}
 use Rattle.systems.specs.Cramer.{row, det, sol, sol_unique, sol_solves, sol-lt}

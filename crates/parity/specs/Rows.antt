@@ -11,9 +11,12 @@ use Rattle.lists.specs.Pick.{pick, pick_true, pick-false, below_or_not}
 use Rattle.lists.specs.Count.{count}
 use Rattle.lists.specs.Those.{those_hold, those_rank}
 use Rattle.field.specs.Byte.{◌⊕◌, mul}
-use Rattle.field.specs.Laws.{mul-zero, zero-mul}
-use Rattle.field.specs.Ring.{ring, mul_⊕}
-use Rattle.field.specs.Sum.{sum_to, sum3, sum_cong, sum-add, sum-mul, sum-zero}
+use Rattle.field.specs.Laws.{mul-zero}
+use Rattle.field.proofs.Laws.{zero-mul}
+use Rattle.field.specs.Ring.{mul_⊕}
+use Rattle.field.proofs.RingLaws.{ring}
+use Rattle.field.specs.Sum.{sum_to, sum3, sum_cong, sum-mul, sum-zero}
+use Rattle.field.proofs.SumLaws.{sum-add}
 use Rattle.systems.specs.Coef.{coef}
 use Rattle.systems.specs.Cramer.{inverse, row, sol}
 use Rattle.parity.specs.Group.{parity_of, lost, there, equations, left, known, data_of, rebuilt}

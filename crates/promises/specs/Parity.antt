@@ -11,6 +11,7 @@ use Rattle.numbers.specs.Layouts.{Valid, contents}
 use Rattle.numbers.specs.Refused.{validb}
 use Rattle.field.specs.Byte.{◌⊕◌, mul, inv, div}
 use Rattle.field.specs.Laws as F
+use Rattle.field.proofs.Laws as FProofs
 use Rattle.field.specs.Ring as R
 use Rattle.field.specs.Sum.{sum_to}
 use Rattle.systems.specs.Coef.{coef, coef-column}
@@ -58,19 +59,19 @@ field_laws =
       sum_assoc = R.⊕-assoc;
       sum-zero = R.⊕-zero;
       sum_self = R.⊕-self;
-      mul_comm = F.mul_comm;
-      mul_assoc = F.mul_assoc;
+      mul_comm = FProofs.mul_comm;
+      mul_assoc = FProofs.mul_assoc;
       mul-sum = R.mul_⊕;
       one = F.mul-one;
       none = F.mul-zero;
       sum_byte = R.⊕-lt;
-      mul_byte = F.mul-lt;
-      inverse_byte = F.inv-lt;
-      quotient_byte = F.div-lt;
+      mul_byte = FProofs.mul-lt;
+      inverse_byte = FProofs.inv-lt;
+      quotient_byte = FProofs.div-lt;
       inverse = F.mul-inv;
-      no_divisors_of_zero = F.no_zero_divisors;
-      quotient = F.div-mul;
-      quotient_only = F.div_unique;
+      no_divisors_of_zero = FProofs.no_zero_divisors;
+      quotient = FProofs.div-mul;
+      quotient_only = FProofs.div_unique;
     }
 
 -- ---- the code
@@ -114,7 +115,7 @@ replication k k3 d b zero h = content_data 1 d 0 (lit< tt)
 replication k k3 d b (suc i) h = content_beyond 1 d (suc i) (omega arith) ∙ copy (suc i - 1) (omega arith)
   where
     copy : (i : ℕ) → i < 3 → parity_of 1 d i ≡ d 0
-    copy i l = unfold parity_of sum_to in (R.zero_⊕ (mul (coef i 0) (d 0)) ∙ ap (λ (c : ℕ). mul c (d 0)) (coef-column i l) ∙ F.one-mul (d 0) b)
+    copy i l = unfold parity_of sum_to in (R.zero_⊕ (mul (coef i 0) (d 0)) ∙ ap (λ (c : ℕ). mul c (d 0)) (coef-column i l) ∙ FProofs.one-mul (d 0) b)
 
 -- ---- encode
 

@@ -6,7 +6,7 @@ use Rattle.std.proofs.Common.{◌∙◌, lt_trans, lit<, eqb-true, ltb-true}
 use Rattle.lists.specs.Pick.{both, both_true}
 use Rattle.lists.specs.Search.{all, all-at}
 use Rattle.field.specs.Byte.{◌⊕◌, double, scale, mul_digits, mul, inv, power_digits, div}
-use Rattle.field.specs.Laws.{div-lt}
+use Rattle.field.proofs.Laws.{div-lt}
 
 -- the coefficient of data unit j in parity unit i
 unfoldable pub coef : ℕ → ℕ → ℕ

@@ -4,8 +4,10 @@ use Rattle.std.specs.Prelude.{◌≡◌, refl, ℕ, zero, suc, ◌<◌}
 use Rattle.std.proofs.Common.{sym, ap, ◌∙◌, le_of_suc-le-suc, not-suc-le-zero, lit<}
 use Rattle.std.proofs.Math.Path.{ap₂}
 use Rattle.field.specs.Byte.{◌⊕◌, mul, inv}
-use Rattle.field.specs.Laws.{mul-lt, mul_comm, mul_assoc, mul-inv, mul-one}
-use Rattle.field.specs.Ring.{ring, ⊕-lt}
+use Rattle.field.specs.Laws.{mul-inv, mul-one}
+use Rattle.field.proofs.Laws.{mul-lt, mul_comm, mul_assoc}
+use Rattle.field.specs.Ring.{⊕-lt}
+use Rattle.field.proofs.RingLaws.{ring}
 use Rattle.field.specs.Sum.{sum3}
 
 -- the two other indices of three

@@ -4,7 +4,7 @@ use Rattle.std.proofs.Common.{ap, ◌∙◌, le_trans, arith, lit<, lit≤}
 use Rattle.std.proofs.Math.Path.{subst⁻¹}
 use Rattle.field.specs.Byte.{◌⊕◌, mul, inv}
 use Rattle.field.specs.Laws.{mul-one, mul-inv}
-use Rattle.field.specs.Ring.{ring}
+use Rattle.field.proofs.RingLaws.{ring}
 use Rattle.lists.specs.Pick.{pick, both}
 use Rattle.systems.specs.Coef.{coef, coef_pos, coef-lt, coef_2, coef_3}
 use Rattle.systems.specs.Cramer.{cof, det, inverse}

@@ -11,8 +11,9 @@ use Rattle.lists.specs.Count.{count-zero}
 use Rattle.lists.specs.Span.{Span}
 use Rattle.field.specs.Byte.{◌⊕◌, mul}
 use Rattle.field.specs.Ring.{⊕-zero, zero_⊕}
-use Rattle.field.specs.Laws.{zero-mul}
-use Rattle.field.specs.Sum.{sum_cong, sum-add}
+use Rattle.field.proofs.Laws.{zero-mul}
+use Rattle.field.specs.Sum.{sum_cong}
+use Rattle.field.proofs.SumLaws.{sum-add}
 use Rattle.kernel.specs.Combine.{sum_at}
 use Rattle.kernel.specs.InPlace.{Apart as ApartIn}
 use Rattle.systems.specs.Coef.{coef}

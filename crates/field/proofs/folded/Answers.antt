@@ -2,7 +2,8 @@
 use mathlib.Core.Path.{◌≡◌, sym, ap, ◌∙◌}
 use Prim.Native.Nat.{ℕ, ◌+◌, ◌-◌, ◌<◌, ◌≤◌}
 use native.Mathlib.Omega.{arith}
-use Rattle.field.specs.Powers.{power, power_turn}
+use Rattle.field.specs.Powers.{power}
+use Rattle.field.proofs.PowersLaws.{power_turn}
 use Rattle.field.proofs.folded.Goals as goal
 use Rattle.field.proofs.folded.Goals.{then-s-lt255, else-s-lt255}
 

@@ -2,7 +2,8 @@
 use mathlib.Core.Path.{sym, ap, ◌∙◌}
 use native.Mathlib.Nat.{le_of_lt}
 use Rattle.field.specs.Byte.{inv}
-use Rattle.field.specs.Powers.{inv-power, inv-zero}
+use Rattle.field.specs.Powers.{inv-zero}
+use Rattle.field.proofs.PowersLaws.{inv-power}
 use Rattle.field.proofs.inv_by.Goals as goal
 
 pub returns-then-a-eq0 : goal.returns-then-a-eq0

@@ -4,7 +4,7 @@ use Prim.Native.Nat.{ℕ, ◌<◌}
 use lib.ListN.{get_or}
 use borrow.Author.Rules.{rules}
 use Rattle.field.specs.Powers.{power}
-use Rattle.field.specs.Tables.{log_power}
+use Rattle.field.proofs.TablesLaws.{log_power}
 use Rattle.field.proofs.log_of.Goals as goal
 
 pub returns : goal.returns

@@ -2,8 +2,9 @@
 use mathlib.Core.Path.{sym, ap, ◌∙◌}
 use Prim.Native.Nat.{ℕ}
 use Rattle.field.specs.Byte.{mul}
-use Rattle.field.specs.Laws.{zero-mul, mul-zero}
-use Rattle.field.specs.Powers.{mul_powers}
+use Rattle.field.specs.Laws.{mul-zero}
+use Rattle.field.proofs.Laws.{zero-mul}
+use Rattle.field.proofs.PowersLaws.{mul_powers}
 use Rattle.field.proofs.mul_by.Goals as goal
 
 pub returns-then-a-eq0 : goal.returns-then-a-eq0
