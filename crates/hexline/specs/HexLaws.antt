@@ -6,7 +6,6 @@ use Rattle.lists.specs.Digits.{div_below}
 use Rattle.lists.specs.Tabulate.{get_d_tabulate}
 use Rattle.lists.specs.Refusal.{grant_yes}
 use Rattle.numbers.specs.declared.Layout.{Layout}
-use Rattle.numbers.specs.Layouts.{frames}
 use Rattle.numbers.specs.Shapes.{layout_products}
 use Rattle.hex_text.specs.Hex.{hex_digit, digit_at, line_char}
 use Rattle.hexline.specs.HexLine.{unit_byte, hex_refusal, hex_line}

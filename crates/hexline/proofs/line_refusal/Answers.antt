@@ -2,81 +2,67 @@
 use Prim.Native.Nat.{◌+◌, ◌*◌, ◌≤◌, ◌<◌}
 use mathlib.Core.Path.{◌≡◌}
 use native.Mathlib.Omega.{arith}
-use borrow.Author.Rules.{rules}
 use borrow.Author.Tests.{le-ltb, lt-ltb, eq-eqb, ne_eqb}
 use Rattle.lists.specs.Refusal.{◌or_else◌, refusal_by}
 use Rattle.numbers.specs.Layouts.{Valid, frames, image_length}
 use Rattle.numbers.specs.Refused.{bad-layout, good-layout, valid_true}
 use Rattle.hexline.specs.HexLine.{hex_refusal}
-use Rattle.hexline.proofs.line_refusal.Statement.{statement}
-use Rattle.hexline.proofs.line_refusal.Tie as tie
+use Rattle.hexline.proofs.line_refusal.Goals as goal
 
-refusal-requires : tie.Need-refusal-requires
-refusal-requires c κs = search rules
+valid : (c : goal.Else-refusal-ne0) → Valid c.args.y
+valid c = good-layout _ c.refusal-refusal.ensures c.if-refusal-ne0.false
 
-returns : tie.Need-returns
+pub returns-then-refusal-ne0 : goal.returns-then-refusal-ne0
 unfolding hex_refusal
-returns c = bad-layout _ _ c.before.refusal.ensures c.if1.true
+returns-then-refusal-ne0 c = bad-layout _ _ c.refusal-refusal.ensures c.if-refusal-ne0.true
 
-valid : (c : tie.Else1) → Valid c.before.before.args.y
-valid c = good-layout _ c.before.refusal.ensures c.if1.false
+pub numbers_of-m-requires : goal.numbers_of-m-requires
+numbers_of-m-requires c = valid c
 
-numbers-of-requires : tie.Need-numbers-of-requires
-numbers-of-requires c κs = valid c
-
-returns-2 : tie.Need-returns-2
+pub returns-then-image-m : goal.returns-then-image-m
 unfolding hex_refusal refusal_by ◌or_else◌
-returns-2 c =
-    let a = c.before.before.before.before.before.args in
+returns-then-image-m c = let a = c.args in
     let v = valid c.before.before.before in
     simp (valid_true a.y v, ne_eqb _ _ (λ (e : a.image ≡ image_length a.y). omega (arith, e)))
 
-returns-3 : tie.Need-returns-3
+pub returns-then-y-target : goal.returns-then-y-target
 unfolding hex_refusal refusal_by ◌or_else◌
-returns-3 c =
-    let a = c.before.before.before.before.before.before.before.args in
+returns-then-y-target c = let a = c.args in
     let v = valid c.before.before.before.before.before in
     let h1 : a.image ≡ image_length a.y = omega arith in
     let h2 : a.y.p ≤ a.target = omega arith in
     simp (valid_true a.y v, eq-eqb _ _ h1, le-ltb _ _ h2)
 
-returns-4 : tie.Need-returns-4
+pub returns-then-m-frame : goal.returns-then-m-frame
 unfolding hex_refusal refusal_by ◌or_else◌
-returns-4 c =
-    let a = c.before.before.before.before.before.before.before.before.before.args in
+returns-then-m-frame c = let a = c.args in
     let v = valid c.before.before.before.before.before.before.before in
     let h1 : a.image ≡ image_length a.y = omega arith in
     let h2 : a.target < a.y.p = omega arith in
     let h3 : frames a.y ≤ a.frame = omega arith in
     simp (valid_true a.y v, eq-eqb _ _ h1, lt-ltb _ _ h2, le-ltb _ _ h3)
 
-mul-if5 : tie.Need-overflow-mul-if5
-mul-if5 c = let v = valid c.before.before.before.before.before.before.before.before in omega arith
+pub overflow_mul-y : goal.overflow_mul-y
+overflow_mul-y c = let v = valid c.before.before.before.before.before.before.before.before in omega arith
 
-add-if5 : tie.Need-overflow-add-if5
-add-if5 c = let v = valid c.before.before.before.before.before.before.before.before in omega arith
+pub overflow_add-y : goal.overflow_add-y
+overflow_add-y c = let v = valid c.before.before.before.before.before.before.before.before in omega arith
 
-returns-5 : tie.Need-returns-5
+pub returns-then-line-y : goal.returns-then-line-y
 unfolding hex_refusal refusal_by ◌or_else◌
-returns-5 c =
-    let a = c.before.before.before.before.before.before.before.before.before.before.before.args in
+returns-then-line-y c = let a = c.args in
     let v = valid c.before.before.before.before.before.before.before.before.before in
     let h1 : a.image ≡ image_length a.y = omega arith in
     let h2 : a.target < a.y.p = omega arith in
     let h3 : a.frame < frames a.y = omega arith in
     simp (valid_true a.y v, eq-eqb _ _ h1, lt-ltb _ _ h2, lt-ltb _ _ h3, ne_eqb _ _ (λ (e : a.line ≡ 11 + 2 * a.y.u). omega (arith, e)))
 
-returns-6 : tie.Need-returns-6
+pub returns : goal.returns
 unfolding hex_refusal refusal_by ◌or_else◌
-returns-6 c =
-    let a = c.before.before.before.before.before.before.before.before.before.before.before.args in
+returns c = let a = c.args in
     let v = valid c.before.before.before.before.before.before.before.before.before in
     let h1 : a.image ≡ image_length a.y = omega arith in
     let h2 : a.target < a.y.p = omega arith in
     let h3 : a.frame < frames a.y = omega arith in
     let h4 : a.line ≡ 11 + 2 * a.y.u = omega arith in
     simp (valid_true a.y v, eq-eqb _ _ h1, lt-ltb _ _ h2, lt-ltb _ _ h3, eq-eqb _ _ h4)
-
-pub line-refusal-spec : {M : Type 1} → statement M
-line-refusal-spec =
-    tie.close (tie.spec refusal-requires returns numbers-of-requires returns-2 returns-3 returns-4 mul-if5 add-if5 returns-5 returns-6)
