@@ -14,11 +14,9 @@ use Rattle.numbers.specs.Layouts.{all_contents}
 use Rattle.homes.specs.declared.Record.{Record}
 use Rattle.homes.specs.Listed.{listed}
 use Rattle.homes.specs.Homes.{free, move, homes}
-use Rattle.homes.specs.HomesLaws.{homes_apart}
 use Rattle.homes.specs.Records.{entry, entry_good, record_good, failures_refusal, record_refusal}
 use Rattle.homes.specs.Dropping.{list_place, skip, entry_without}
 use Rattle.homes.specs.Standing.{Units, Standing, HomesAre}
-use Rattle.homes.specs.StandingLaws.{move_cong}
 
 -- ---- the record's test
 
@@ -97,26 +95,6 @@ module _ (target : ℕ → ℕ) (m K : ℕ) (e : ℕ → ℕ) (j : ℕ) (h : ℕ
       p ∙ (λ i. pick (t i) (m + (s ∙ ap (λ (n : ℕ). lowest (free target m e n h) K) (add-one j)) i) (h c))
 
 -- ---- entry after entry
-
-module _ (targets failed : List ℕ) (m spares j : ℕ) (s : Standing targets m spares j) where
-  pub homes_units : (i : ℕ) → i ≤ j → (h : List ℕ) → HomesAre targets m spares failed i h → Units targets h m spares
-  homes_units i le h are =
-      let k = s.few in
-      record {
-        few-contents = s.few-contents;
-        few_units = let a = s.few-contents in let b = s.few_spares in omega arith;
-        units = λ c b. let l = (homes_apart (at targets) m spares (at failed) s.apart i (omega arith)).below c b in omega (arith, are c b);
-      }
-
-  pub homes_turn : (i : ℕ) → i < j → (h r : List ℕ) → HomesAre targets m spares failed i h
-      → ((c : ℕ) → c < m → at r c ≡ move (at targets) m spares (at failed) i (at h) c) → HomesAre targets m spares failed (i + 1) r
-  unfolding homes
-  homes_turn i lt h r are next c b =
-      let k = s.few in
-      next c b
-      ∙ move_cong (at targets) (at targets) m spares (at failed) (λ u l. refl) i (at h) (homes (at targets) m spares (at failed) i) are
-      (homes_apart (at targets) m spares (at failed) s.apart i (omega arith)).below c b
-      ∙ ap (λ (n : ℕ). homes (at targets) m spares (at failed) n c) (sym (add-one i))
 
 -- ---- an entry of the list without the one at `place`
 

@@ -15,7 +15,7 @@ use Rattle.parity.specs.Group.{rebuilt}
 use Rattle.parity.specs.Content.{content_data, content_cong}
 use Rattle.homes.specs.declared.Record.{Record}
 use Rattle.homes.specs.Records.{Good}
-use Rattle.homes.specs.MissingLaws.{home-own, unfailed-present}
+use Rattle.homes.proofs.MissingLaws.{home-own, unfailed-present}
 use Rattle.pool.specs.Contents.{stored, content_byte, file_byte}
 use Rattle.pool.specs.Files.{encoded}
 use Rattle.pool.specs.Asked.{Sound}

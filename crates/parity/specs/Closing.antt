@@ -15,7 +15,8 @@ use Rattle.field.specs.Laws.{mul-one}
 use Rattle.field.proofs.Laws.{one-mul}
 use Rattle.field.proofs.RingLaws.{ring}
 use Rattle.field.specs.Sum.{sum_to, sum_cong}
-use Rattle.systems.specs.Coef.{coef, coef-row}
+use Rattle.systems.specs.Coef.{coef}
+use Rattle.systems.proofs.CoefLaws.{coef-row}
 use Rattle.systems.specs.Matrix.{ent}
 use Rattle.systems.specs.System.{inverse-one}
 use Rattle.parity.specs.Group.{parity_of, Solvable, lost, gone, there, data_of, rebuilt}

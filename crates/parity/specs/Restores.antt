@@ -16,7 +16,8 @@ use Rattle.field.proofs.RingLaws.{ring}
 use Rattle.field.specs.Sum.{sum_to, sum_cong, sum_lt}
 use Rattle.systems.specs.Coef.{coef}
 use Rattle.systems.specs.Cramer.{row, det, sol, sol_unique, sol_solves, sol-lt}
-use Rattle.systems.specs.System.{system_entry, sys, regular}
+use Rattle.systems.specs.System.{system_entry, sys}
+use Rattle.systems.proofs.SystemLaws.{regular}
 use Rattle.parity.specs.Group.{parity_of, content, Solvable, lost, there, equations, left, known, data_of, rebuilt}
 use Rattle.parity.specs.Content.{content_data, content_parity, content_cong, sum_over, sum_split, short_sum}
 

@@ -14,7 +14,7 @@ use Rattle.place.specs.ByteLaws.{target_there}
 use Rattle.homes.specs.declared.Record.{Record}
 use Rattle.homes.specs.Records.{failed}
 use Rattle.homes.specs.Missing.{target_at, home, missing}
-use Rattle.homes.specs.MissingLaws.{home-lt, home_alive}
+use Rattle.homes.proofs.MissingLaws.{home-lt, home_alive}
 use Rattle.pool.specs.Refusals.{range_refusal, repair_refusal}
 use Rattle.pool.specs.Storing.{Stores}
 use Rattle.pool.specs.Writing.{named, touched, writes, writes_present, written_image, write_image}

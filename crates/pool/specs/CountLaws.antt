@@ -8,7 +8,7 @@ use Rattle.numbers.specs.declared.Layout.{Layout}
 use Rattle.numbers.specs.Layouts.{Valid, all_groups, contents, all_contents}
 use Rattle.homes.specs.declared.Record.{Record}
 use Rattle.homes.specs.Listed.{listed}
-use Rattle.homes.specs.MissingLaws.{unfailed-present, repaired_present}
+use Rattle.homes.proofs.MissingLaws.{unfailed-present, repaired_present}
 use Rattle.homes.specs.Once.{listed_more}
 use Rattle.homes.specs.Records.{entry, failed, Good}
 use Rattle.homes.specs.Missing.{target_at, home, missing}

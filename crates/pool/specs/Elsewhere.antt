@@ -18,10 +18,10 @@ use Rattle.place.specs.Bytes.{spot, target_here, unit_here, offset_here}
 use Rattle.place.specs.ByteLaws.{group_there, unit_there', target_there, place_here, spot-here, group_here-lt, offset_here-lt}
 use Rattle.homes.specs.declared.Record.{Record}
 use Rattle.homes.specs.Homes.{homes}
-use Rattle.homes.specs.HomesLaws.{homes_stay}
+use Rattle.homes.proofs.HomesLaws.{homes_stay}
 use Rattle.homes.specs.Records.{entry, failed, Good}
 use Rattle.homes.specs.Missing.{target_at, home, missing}
-use Rattle.homes.specs.MissingLaws.{home-lt}
+use Rattle.homes.proofs.MissingLaws.{home-lt}
 use Rattle.pool.specs.Contents.{home_spot, stored}
 use Rattle.pool.specs.Asked.{Sound}
 use Rattle.pool.specs.Holds.{home-spot-lt}

@@ -12,7 +12,7 @@ use Rattle.numbers.specs.Layouts.{contents}
 use Rattle.place.specs.Bytes.{spot}
 use Rattle.homes.specs.declared.Record.{Record}
 use Rattle.homes.specs.Listed.{listed, listed_same, listed_at, unlisted_sub}
-use Rattle.homes.specs.HomesLaws.{homes_same}
+use Rattle.homes.proofs.HomesLaws.{homes_same}
 use Rattle.homes.specs.Records.{entry, failed, Good}
 use Rattle.homes.specs.Missing.{target_at, home, missing}
 use Rattle.pool.specs.Contents.{stored}

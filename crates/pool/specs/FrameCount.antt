@@ -19,10 +19,10 @@ use Rattle.place.specs.PlaceLaws.{place_in, unit_in_lem, there_and_back, back_an
 use Rattle.homes.specs.declared.Record.{Record}
 use Rattle.homes.specs.Listed.{listed}
 use Rattle.homes.specs.Homes.{homes}
-use Rattle.homes.specs.HomesLaws.{homes_stay}
+use Rattle.homes.proofs.HomesLaws.{homes_stay}
 use Rattle.homes.specs.Records.{entry, Good}
 use Rattle.homes.specs.Missing.{target_at, home}
-use Rattle.homes.specs.MissingLaws.{home-own, home-lt}
+use Rattle.homes.proofs.MissingLaws.{home-own, home-lt}
 use Rattle.pool.specs.Storing.{owner}
 use Rattle.pool.specs.StoringLaws.{owner-home}
 use Rattle.pool.specs.Elsewhere.{is_home}

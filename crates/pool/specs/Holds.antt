@@ -22,7 +22,7 @@ use Rattle.parity.specs.Lowest.{Rebuilds, rebuilds}
 use Rattle.homes.specs.declared.Record.{Record}
 use Rattle.homes.specs.Records.{Good}
 use Rattle.homes.specs.Missing.{home, missing}
-use Rattle.homes.specs.MissingLaws.{home-lt, few-missing}
+use Rattle.homes.proofs.MissingLaws.{home-lt, few-missing}
 use Rattle.pool.specs.Contents.{home_spot, stored, content_byte, file_byte}
 use Rattle.pool.specs.Refusals.{range_refusal}
 use Rattle.pool.specs.Reading.{read_out}

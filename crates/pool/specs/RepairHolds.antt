@@ -14,7 +14,7 @@ use Rattle.place.specs.Bytes.{spot}
 use Rattle.homes.specs.declared.Record.{Record}
 use Rattle.homes.specs.Records.{Good}
 use Rattle.homes.specs.Missing.{home, missing}
-use Rattle.homes.specs.MissingLaws.{repaired_present, home_stays}
+use Rattle.homes.proofs.MissingLaws.{repaired_present, home_stays}
 use Rattle.pool.specs.Contents.{stored, content_byte}
 use Rattle.pool.specs.Refusals.{repair_refusal}
 use Rattle.pool.specs.Repairing.{mended_image, repair_image, mended, repair_record}

@@ -12,7 +12,7 @@ use Rattle.place.specs.ByteLaws.{target_there}
 use Rattle.homes.specs.declared.Record.{Record}
 use Rattle.homes.specs.Records.{failed, Good}
 use Rattle.homes.specs.Missing.{home, missing}
-use Rattle.homes.specs.MissingLaws.{home-lt}
+use Rattle.homes.proofs.MissingLaws.{home-lt}
 use Rattle.pool.specs.Contents.{home_spot, stored}
 use Rattle.pool.specs.Scribbling.{scribbled}
 use Rattle.pool.specs.Holds.{Holds, home-spot-lt}

@@ -15,7 +15,7 @@ use Rattle.place.specs.Bytes.{spot, unit_here, offset_here}
 use Rattle.place.specs.ByteLaws.{spot_in, group_there, unit_there', offset_there, spot-here, group_here-lt, offset_here-lt}
 use Rattle.homes.specs.declared.Record.{Record}
 use Rattle.homes.specs.Missing.{home}
-use Rattle.homes.specs.MissingLaws.{home_apart, home-lt}
+use Rattle.homes.proofs.MissingLaws.{home_apart, home-lt}
 use Rattle.pool.specs.Storing.{owner, cell_after, storing, Stores}
 
 -- ---- owners and homes

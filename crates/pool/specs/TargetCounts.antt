@@ -15,7 +15,7 @@ use Rattle.homes.specs.Listed.{listed, unlisted}
 use Rattle.homes.specs.Once.{listed_more}
 use Rattle.homes.specs.Records.{entry, Good}
 use Rattle.homes.specs.Missing.{target_at, home, missing}
-use Rattle.homes.specs.MissingLaws.{home_alive}
+use Rattle.homes.proofs.MissingLaws.{home_alive}
 use Rattle.pool.specs.Counting.{missing_units, home_on, on_target}
 
 module _ (y : Layout) (R : Record) (good : Good y R) where

@@ -23,7 +23,7 @@ use Rattle.homes.specs.Listed.{listed_same}
 use Rattle.homes.specs.Records.{entry, failed, record_good}
 use Rattle.homes.specs.RecordLaws.{good_unread}
 use Rattle.homes.specs.Missing.{target_at, home, missing}
-use Rattle.homes.specs.MissingLaws.{home_unread, missing_unread}
+use Rattle.homes.proofs.MissingLaws.{home_unread, missing_unread}
 use Rattle.pool.specs.Counting.{missing_units, on_target}
 use Rattle.pool.specs.Contents.{stored, content_byte, file_byte}
 use Rattle.pool.specs.Refusals.{pool_tests, range_tests, range_refusal, otherwise, raised, fail_refusal, repair_refusal, look_tests, look_refusal}

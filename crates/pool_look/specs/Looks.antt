@@ -15,7 +15,7 @@ use Rattle.homes.specs.declared.Record.{Record}
 use Rattle.place.specs.Bytes.{spot}
 use Rattle.place.specs.ByteLaws.{spot_in}
 use Rattle.homes.specs.Missing.{home, missing}
-use Rattle.homes.specs.MissingLaws.{home-lt}
+use Rattle.homes.proofs.MissingLaws.{home-lt}
 use Rattle.pool.specs.Contents.{home_spot, content_byte}
 use Rattle.pool.specs.Refusals.{look_refusal}
 use Rattle.pool.specs.Looking.{look_shown}

@@ -22,7 +22,7 @@ use Rattle.parity.specs.Group.{content}
 use Rattle.parity.specs.Content.{content_cong}
 use Rattle.homes.specs.declared.Record.{Record}
 use Rattle.homes.specs.Records.{Good}
-use Rattle.homes.specs.MissingLaws.{home-own, unfailed-present}
+use Rattle.homes.proofs.MissingLaws.{home-own, unfailed-present}
 use Rattle.pool.specs.Asked.{Sound}
 use Rattle.pool.specs.Files.{encoded}
 use Rattle.plan.specs.declared.Plan.{Plan}

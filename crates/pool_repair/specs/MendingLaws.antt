@@ -15,7 +15,7 @@ use Rattle.homes.specs.declared.Record.{Record}
 use Rattle.homes.specs.Records.{Good}
 use Rattle.homes.specs.Missing.{home, missing}
 use Rattle.pool.specs.Counting.{missing_pairs, missing_units}
-use Rattle.homes.specs.MissingLaws.{few-missing, home_stays}
+use Rattle.homes.proofs.MissingLaws.{few-missing, home_stays}
 use Rattle.plan.specs.declared.Plan.{Plan}
 use Rattle.plan.specs.Plans.{miss_of, Fits}
 use Rattle.runs.specs.Steps.{fits_at}

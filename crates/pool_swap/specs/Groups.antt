@@ -15,7 +15,7 @@ use Rattle.place.specs.ByteLaws.{unit_there'}
 use Rattle.homes.specs.declared.Record.{Record}
 use Rattle.homes.specs.Dropping.{without}
 use Rattle.homes.specs.Missing.{home}
-use Rattle.homes.specs.MissingLaws.{home-lt}
+use Rattle.homes.proofs.MissingLaws.{home-lt}
 use Rattle.pool.specs.Contents.{stored}
 use Rattle.pool.specs.StoringLaws.{storing-length}
 use Rattle.runs.specs.Run.{paint_same}

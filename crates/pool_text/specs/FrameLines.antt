@@ -10,7 +10,8 @@ use Rattle.lists.specs.Refusal.{refusal_none, grant_yes}
 use Rattle.numbers.specs.declared.Layout.{Layout}
 use Rattle.numbers.specs.Layouts.{Valid, frames, image_length}
 use Rattle.numbers.specs.Refused.{validb, valid_true}
-use Rattle.hex_text.specs.LineLaws.{written_right, right_there}
+use Rattle.hex_text.specs.LineLaws.{written_right}
+use Rattle.hex_text.proofs.LineLaws.{right_there}
 use Rattle.hexline.specs.HexLine.{unit_byte, hex_refusal, hex_line}
 use Rattle.pool_text.specs.Text.{line_length, line_count, text_length, line_target, line_frame, pool_char, pool_text, line_of, frame_line}
 use Rattle.pool_text.specs.Reading.{right_at, text_image}

@@ -14,7 +14,8 @@ use Rattle.numbers.specs.Layouts.{Valid, image_length}
 use Rattle.hex_text.specs.Hex.{line_char}
 use Rattle.hex_text.specs.DigitLaws.{told-lt}
 use Rattle.hex_text.specs.Line.{byte_at}
-use Rattle.hex_text.specs.LineLaws.{line_ext, written_right, written_byte, right_written}
+use Rattle.hex_text.specs.LineLaws.{line_ext, written_right, written_byte}
+use Rattle.hex_text.proofs.LineLaws.{right_written}
 use Rattle.hexline.specs.HexLine.{unit_byte}
 use Rattle.pool_text.specs.Text.{line_length, line_count, text_length, line_target, line_frame, pool_char, pool_text, Made}
 use Rattle.pool_text.specs.Reading.{right_at, text_right, first_wrong, text_byte, text_image}

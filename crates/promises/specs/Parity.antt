@@ -14,9 +14,11 @@ use Rattle.field.specs.Laws as F
 use Rattle.field.proofs.Laws as FProofs
 use Rattle.field.specs.Ring as R
 use Rattle.field.specs.Sum.{sum_to}
-use Rattle.systems.specs.Coef.{coef, coef-column}
+use Rattle.systems.specs.Coef.{coef}
+use Rattle.systems.proofs.CoefLaws.{coef-column}
 use Rattle.systems.specs.Cramer.{det, row, sol, sol_solves, sol_unique}
-use Rattle.systems.specs.System.{sys, Rising, regular}
+use Rattle.systems.specs.System.{sys, Rising}
+use Rattle.systems.proofs.SystemLaws.{regular}
 use Rattle.parity.specs.Group.{parity_of, content, Solvable, rebuilt}
 use Rattle.parity.specs.Content.{content_beyond, content_data}
 use Rattle.parity.specs.Restores.{restores}

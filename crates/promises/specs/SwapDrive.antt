@@ -17,7 +17,7 @@ use Rattle.homes.specs.Records.{entry, failed}
 use Rattle.homes.specs.Dropping.{list_place, entry_without, without}
 use Rattle.homes.specs.DroppingLaws as D
 use Rattle.homes.specs.Missing.{home, missing}
-use Rattle.homes.specs.MissingLaws.{home-own}
+use Rattle.homes.proofs.MissingLaws.{home-own}
 use Rattle.pool.specs.Contents.{stored}
 use Rattle.pool.specs.Counting.{TrueCount}
 use Rattle.pool.specs.Refusals.{fail_refusal, repair_refusal}

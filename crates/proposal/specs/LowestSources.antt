@@ -24,7 +24,7 @@ use Rattle.homes.specs.Listed.{listed, listed_at}
 use Rattle.homes.specs.Once.{place_in, listed_where}
 use Rattle.homes.specs.Records.{Good}
 use Rattle.homes.specs.Missing.{missing}
-use Rattle.homes.specs.MissingLaws.{few-missing}
+use Rattle.homes.proofs.MissingLaws.{few-missing}
 use Rattle.pool.specs.Contents.{stored, content_byte}
 use Rattle.pool.specs.Repairing.{mends, mended_image}
 use Rattle.pool.specs.StoringLaws.{storing_alike}

@@ -15,7 +15,7 @@ use Rattle.parity.specs.Local.{rebuilt_cong}
 use Rattle.homes.specs.declared.Record.{Record}
 use Rattle.homes.specs.Records.{failed}
 use Rattle.homes.specs.Missing.{home, missing}
-use Rattle.homes.specs.MissingLaws.{home-lt, home_alive}
+use Rattle.homes.proofs.MissingLaws.{home-lt, home_alive}
 use Rattle.pool.specs.Contents.{stored}
 use Rattle.pool.specs.Counting.{TrueCount}
 use Rattle.pool.specs.Repairing.{mended, repair_record}

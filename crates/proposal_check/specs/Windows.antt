@@ -19,7 +19,7 @@ use Rattle.numbers.specs.Layouts.{Valid, all_groups, contents}
 use Rattle.homes.specs.declared.Record.{Record}
 use Rattle.homes.specs.Records.{Good}
 use Rattle.homes.specs.Missing.{missing}
-use Rattle.homes.specs.MissingLaws.{few-missing}
+use Rattle.homes.proofs.MissingLaws.{few-missing}
 use Rattle.proposal.specs.Plans.{entries, group_named, content_named}
 use Rattle.proposal.specs.Accepted.{named_below, names-true, names_hold, entry_good, EntryFacts, entry_facts}
 use Rattle.proposal_check.specs.Checked.{names_anew, entries_good}

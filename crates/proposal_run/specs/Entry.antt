@@ -21,7 +21,7 @@ use Rattle.parity.specs.Matrix.{flag}
 use Rattle.homes.specs.declared.Record.{Record}
 use Rattle.homes.specs.Records.{Good}
 use Rattle.homes.specs.Missing.{home}
-use Rattle.homes.specs.MissingLaws.{home_stays}
+use Rattle.homes.proofs.MissingLaws.{home_stays}
 use Rattle.pool.specs.Contents.{stored}
 use Rattle.plan.specs.declared.Plan.{Plan}
 use Rattle.plan.specs.Plans.{miss_of, Right, Planned, Fits, column, held}

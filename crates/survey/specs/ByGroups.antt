@@ -12,7 +12,7 @@ use Rattle.place.specs.Bytes.{spot, unit_here, offset_here}
 use Rattle.place.specs.ByteLaws.{spot_in, group_there}
 use Rattle.homes.specs.declared.Record.{Record}
 use Rattle.homes.specs.Missing.{home}
-use Rattle.homes.specs.MissingLaws.{home-lt}
+use Rattle.homes.proofs.MissingLaws.{home-lt}
 use Rattle.pool.specs.Storing.{cell_after, storing}
 use Rattle.pool.specs.StoringLaws.{storing-length, storing-none, storing_changes}
 use Rattle.pool.specs.Rounds.{either, cell_same, same_value, storing_join, storing_ext}

@@ -9,7 +9,7 @@ use Rattle.place.specs.Bytes.{spot, unit_here, offset_here}
 use Rattle.place.specs.ByteLaws.{spot_in, group_there, unit_there', offset_there, spot-here, group_here-lt, offset_here-lt}
 use Rattle.homes.specs.declared.Record.{Record}
 use Rattle.homes.specs.Missing.{home}
-use Rattle.homes.specs.MissingLaws.{home-lt}
+use Rattle.homes.proofs.MissingLaws.{home-lt}
 use Rattle.pool.specs.Storing.{owner}
 use Rattle.pool.specs.StoringLaws.{owner-home, home-owner}
 use Rattle.survey.specs.Surveyed.{spot_plus}

@@ -12,9 +12,9 @@ use Rattle.parity.specs.Matrix.{flag}
 use Rattle.homes.specs.declared.Record.{Record}
 use Rattle.homes.specs.Records.{failed, Good}
 use Rattle.homes.specs.Missing.{target_at, home, missing}
-use Rattle.homes.specs.MissingLaws.{home-own, home-lt, repaired_present}
+use Rattle.homes.proofs.MissingLaws.{home-own, home-lt, repaired_present}
 use Rattle.homes.specs.Standing.{HomesAre}
-use Rattle.homes.specs.StandingLaws.{homes_are}
+use Rattle.homes.proofs.StandingLaws.{homes_are}
 use Rattle.pool.specs.Holds.{solvable}
 use Rattle.plan.specs.declared.Plan.{Plan}
 use Rattle.plan.specs.Plans.{Planned}

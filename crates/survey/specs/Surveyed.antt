@@ -14,7 +14,7 @@ use Rattle.parity.specs.Local.{rebuilt_cong}
 use Rattle.homes.specs.declared.Record.{Record}
 use Rattle.homes.specs.Records.{Good}
 use Rattle.homes.specs.Missing.{home, missing}
-use Rattle.homes.specs.MissingLaws.{home-lt, home_apart}
+use Rattle.homes.proofs.MissingLaws.{home-lt, home_apart}
 use Rattle.pool.specs.Contents.{stored, content_byte}
 use Rattle.pool.specs.Holds.{solvable}
 use Rattle.plan.specs.declared.Plan.{Plan}

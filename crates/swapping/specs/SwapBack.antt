@@ -13,12 +13,12 @@ use Rattle.numbers.specs.Layouts.{all_groups, contents}
 use Rattle.place.specs.Bytes.{spot}
 use Rattle.homes.specs.declared.Record.{Record}
 use Rattle.homes.specs.Listed.{unlisted}
-use Rattle.homes.specs.HomesLaws.{homes_same}
+use Rattle.homes.proofs.HomesLaws.{homes_same}
 use Rattle.homes.specs.Records.{entry, failed, Good}
 use Rattle.homes.specs.Dropping.{list_place, skip, without}
 use Rattle.homes.specs.DroppingLaws.{skip-low, entry-without, without-good}
 use Rattle.homes.specs.Missing.{target_at, home}
-use Rattle.homes.specs.MissingLaws.{repaired_present}
+use Rattle.homes.proofs.MissingLaws.{repaired_present}
 use Rattle.pool.specs.Contents.{home_spot, stored}
 use Rattle.pool.specs.Refusals.{range_tests, range_refusal, fail_refusal, repair_refusal}
 use Rattle.pool.specs.Reading.{read_out}

@@ -19,12 +19,14 @@ use Rattle.place.specs.ByteLaws.{target_there, unit_there'}
 use Rattle.homes.specs.declared.Record.{Record}
 use Rattle.homes.specs.Listed.{listed}
 use Rattle.homes.specs.Homes.{homes}
-use Rattle.homes.specs.HomesLaws.{own_or_spare, homes_stay, on-listed}
+use Rattle.homes.specs.HomesLaws.{own_or_spare}
+use Rattle.homes.proofs.HomesLaws.{homes_stay, on-listed}
 use Rattle.homes.specs.Records.{entry, failed, Good}
 use Rattle.homes.specs.Dropping.{without}
 use Rattle.homes.specs.DroppingLaws.{without-good, without_shorter, alive_stays, others_alive}
 use Rattle.homes.specs.Missing.{target_at, home, missing}
-use Rattle.homes.specs.MissingLaws.{home-own, units_apart, home-lt, repaired_present}
+use Rattle.homes.specs.MissingLaws.{units_apart}
+use Rattle.homes.proofs.MissingLaws.{home-own, home-lt, repaired_present}
 use Rattle.pool.specs.Contents.{stored}
 use Rattle.pool.specs.Refusals.{pool_tests}
 use Rattle.pool.specs.Storing.{storing}

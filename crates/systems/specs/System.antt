@@ -6,7 +6,7 @@ use Rattle.field.specs.Byte.{◌⊕◌, mul, inv}
 use Rattle.field.specs.Laws.{mul-one, mul-inv}
 use Rattle.field.proofs.RingLaws.{ring}
 use Rattle.lists.specs.Pick.{pick, both}
-use Rattle.systems.specs.Coef.{coef, coef_pos, coef-lt, coef_2, coef_3}
+use Rattle.systems.specs.Coef.{coef, coef-lt}
 use Rattle.systems.specs.Cramer.{cof, det, inverse}
 
 -- entry (r, c) of d equations: the coefficient of the lost unit ks[c] in the parity unit is[r], or the identity's
@@ -22,44 +22,13 @@ pub record Rising (l : List ℕ) (n : ℕ) : Type 0 where
   pub rises : (c e : ℕ) → c < e → e < length l → get_or l c 0 < get_or l e 0
 
 -- the determinant of one and of two equations, padded
-pad_1 : (p : ℕ) → p < 256
+pub pad_1 : (p : ℕ) → p < 256
     → mul p (mul 1 1 ⊕ mul 0 0) ⊕ (mul 0 (mul 0 1 ⊕ mul 0 0) ⊕ mul 0 (mul 0 0 ⊕ mul 1 0)) ≡ p
 pad_1 p h = simp (mul-one p h, mul-one 1 (lit< tt), ring)
 
-pad_2 : (p q r s : ℕ) → p < 256 → q < 256 → r < 256 → s < 256
+pub pad_2 : (p q r s : ℕ) → p < 256 → q < 256 → r < 256 → s < 256
     → mul p (mul s 1 ⊕ mul 0 0) ⊕ (mul q (mul r 1 ⊕ mul 0 0) ⊕ mul 0 (mul r 0 ⊕ mul s 0)) ≡ mul p s ⊕ mul q r
 pad_2 p q r s hp hq hr hs = simp (mul-one r hr, mul-one s hs, ring)
-
-pub regular : (is ks : List ℕ) → Rising is 3 → Rising ks 16 → length ks ≤ length is → 0 < det (sys is ks)
-unfolding system_entry det cof
-regular is [] ri rk h = subst⁻¹ (λ (x : ℕ). 0 < x) (pad_1 1 (lit< tt)) (lit< tt)
-regular is (a ∷ []) ri rk h =
-    subst⁻¹ (λ (x : ℕ). 0 < x) (pad_1 (coef (get_or is 0 0) a) (coef-lt (get_or is 0 0) a))
-    (coef_pos (get_or is 0 0) a (ri.bound 0 h) (rk.bound 0 (lit< tt)))
-regular is (a ∷ b ∷ []) ri rk h =
-    let i = get_or is 0 0 in
-    let k = get_or is 1 0 in
-    subst⁻¹ (λ (x : ℕ). 0 < x) (pad_2 (coef i a) (coef i b) (coef k a) (coef k b) (coef-lt i a) (coef-lt i b) (coef-lt k a) (coef-lt k b))
-    (coef_2 i k a b (ri.rises 0 1 (lit< tt) h) (ri.bound 1 h) (rk.rises 0 1 (lit< tt) (lit< tt)) (rk.bound 1 (lit< tt)))
-regular is (a ∷ b ∷ c ∷ []) ri rk h =
-    let i = get_or is 0 0 in
-    let k = get_or is 1 0 in
-    let l = get_or is 2 0 in
-    let ik : i < k = ri.rises 0 1 (lit< tt) (le_trans (lit≤ tt) h) in
-    let kl : k < l = ri.rises 1 2 (lit< tt) h in
-    let l3 : l < 3 = ri.bound 2 h in
-    let ei : i ≡ 0 = omega arith in
-    let ek : k ≡ 1 = omega arith in
-    let el : l ≡ 2 = omega arith in
-    rw (ei, ek, el) (coef_3 a b c (rk.rises 0 1 (lit< tt) (lit< tt)) (rk.rises 1 2 (lit< tt) (lit< tt)) (rk.bound 2 (lit< tt)))
-regular is (a ∷ b ∷ c ∷ d ∷ ks) ri rk h =
-    absurd
-    (let h4 : 4 ≤ length is = omega arith in
-    let e1 : get_or is 0 0 < get_or is 1 0 = ri.rises 0 1 (lit< tt) (omega arith) in
-    let e2 : get_or is 1 0 < get_or is 2 0 = ri.rises 1 2 (lit< tt) (omega arith) in
-    let e3 : get_or is 2 0 < get_or is 3 0 = ri.rises 2 3 (lit< tt) (omega arith) in
-    let e4 : get_or is 3 0 < 3 = ri.bound 3 (omega arith) in
-    omega arith)
 
 -- one equation, with 1 for its coefficient: so is the inverse
 pub inverse-one : (is ks : List ℕ) → length ks ≡ 1 → coef (get_or is 0 0) (get_or ks 0 0) ≡ 1 → inverse (sys is ks) 0 0 ≡ 1

@@ -21,7 +21,7 @@ use Rattle.homes.specs.Listed.{listed, listed_same}
 use Rattle.homes.specs.Records.{entry}
 use Rattle.homes.specs.Missing.{home}
 use Rattle.homes.specs.Standing.{TargetsAre, Standing, HomesAre}
-use Rattle.homes.specs.StandingLaws.{standing_of, homes_are}
+use Rattle.homes.proofs.StandingLaws.{standing_of, homes_are}
 use Rattle.pool.specs.Counting.{on_target}
 use Rattle.pool.specs.Elsewhere.{is_home}
 use Rattle.pool.specs.FrameCount.{home_in, own_home, home_test, unrepaired_home, on_target_by_frames, on_target_few}

@@ -1,7 +1,7 @@
 -- `hex_text::read_line` meets its contract: a line is right where its newline, its first ten characters and its digits are.
 use mathlib.Core.Path.{sym, ◌∙◌}
 use native.Mathlib.Omega.{arith}
-use Rattle.hex_text.specs.RunLaws.{newline_wrong, head_wrong, runs_right}
+use Rattle.hex_text.proofs.RunLaws.{newline_wrong, head_wrong, runs_right}
 use Rattle.hex_text.proofs.read_line.Goals as goal
 
 pub returns-then-text-at-ne10 : goal.returns-then-text-at-ne10

@@ -4,7 +4,7 @@ use Prim.Native.Nat.{ℕ}
 use native.Mathlib.Omega.{arith}
 use Rattle.homes.specs.Homes.{homes}
 use Rattle.homes.specs.Standing.{HomesAre}
-use Rattle.homes.specs.Steps.{homes_units, homes_turn}
+use Rattle.homes.proofs.StepsLaws.{homes_units, homes_turn}
 use Rattle.homes.proofs.homes_of.Goals as goal
 
 pub loop-i-init : goal.loop-i-init

@@ -1,7 +1,7 @@
 -- `survey::new_starts` meets its contract: homes under the whole list are units of the group. That they are so many holds of any part of the list, so a
 -- program that takes another part is refused at what it returns.
 use native.Mathlib.Omega.{arith}
-use Rattle.homes.specs.StandingLaws.{standing_of}
+use Rattle.homes.proofs.StandingLaws.{standing_of}
 use Rattle.survey.specs.Steps.{homes_fit, starts_of}
 use borrow.Author.Rules.{rules}
 use Rattle.survey.proofs.new_starts.Statement.{statement}

@@ -1,5 +1,5 @@
 -- `survey::shift_of` meets its contract: homes under either list are units of the group.
-use Rattle.homes.specs.StandingLaws.{standing_of}
+use Rattle.homes.proofs.StandingLaws.{standing_of}
 use Rattle.survey.specs.Steps.{homes_fit, starts_of}
 use borrow.Author.Rules.{rules}
 use Rattle.survey.proofs.shift_of.Statement.{statement}

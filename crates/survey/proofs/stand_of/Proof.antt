@@ -2,7 +2,7 @@
 -- the group, and those on a failed target are missing.
 use Prim.Native.Nat.{◌≤◌}
 use native.Mathlib.Omega.{arith}
-use Rattle.homes.specs.StandingLaws.{standing_of, units_of, missing_are}
+use Rattle.homes.proofs.StandingLaws.{standing_of, units_of, missing_are}
 use Rattle.survey.specs.Steps.{homes_fit, starts_of, own_stands}
 use borrow.Author.Rules.{rules}
 use Rattle.survey.proofs.stand_of.Statement.{statement}

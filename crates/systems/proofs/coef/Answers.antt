@@ -1,6 +1,7 @@
 -- `systems::coef`. The table holds the coefficients (`coef-entry`).
 use mathlib.Core.Path.{sym}
-use Rattle.systems.specs.Coef.{table, entry, coef-entry}
+use Rattle.systems.specs.Coef.{table, entry}
+use Rattle.systems.proofs.CoefLaws.{coef-entry}
 use Rattle.systems.proofs.coef.Goals as goal
 
 pub returns : goal.returns

@@ -1,0 +1,4 @@
+pub mod HomesLaws
+pub mod MissingLaws
+pub mod StandingLaws
+pub mod StepsLaws

@@ -1,0 +1,2 @@
+pub mod CoefLaws
+pub mod SystemLaws
