@@ -1,7 +1,6 @@
 -- `plan::codes`. Three rows, each by its callee.
 use mathlib.Core.Path.{◌≡◌}
 use Prim.Native.Nat.{ℕ, ◌<◌}
-use borrow.Author.Rules.{rules}
 use Rattle.plan.specs.Plans.{lines_of}
 use Rattle.systems.specs.Coef.{coef}
 use Rattle.systems.specs.Cramer.{three}

@@ -1,5 +1,4 @@
 -- `plan::line`. Each return is its row.
-use borrow.Author.Rules.{rules}
 use Rattle.plan.specs.Plans.{lines_of}
 use Rattle.plan.specs.Steps.{third_is}
 use Rattle.plan.proofs.line.Goals as goal

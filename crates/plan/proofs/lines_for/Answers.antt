@@ -2,7 +2,6 @@
 use mathlib.Core.Path.{◌∙◌}
 use native.Mathlib.Nat.{le_trans}
 use native.Mathlib.Omega.{arith}
-use borrow.Author.Rules.{rules}
 use Rattle.parity.specs.Made.{gone_most}
 use Rattle.plan.specs.Steps.{three-rows}
 use Rattle.plan.proofs.lines_for.Goals as goal

@@ -1,7 +1,6 @@
 -- `plan::plan_anew`. Each part by its callee.
 use mathlib.Core.Path.{refl, ◌∙◌}
 use native.Mathlib.Omega.{arith}
-use borrow.Author.Rules.{rules}
 use Rattle.lists.specs.Those.{length-those}
 use Rattle.parity.specs.Made.{gone_most}
 use Rattle.plan.proofs.plan_anew.Goals as goal
@@ -14,17 +13,17 @@ lines_for-rows-requires c = (c.requires.0, c.missing_below-gone.ensures.count_is
 
 pub returns : goal.returns
 returns c = record {
-      n_is = refl;
-      k_is = refl;
-      u_is = refl;
-      at_is = refl;
-      flags_are = λ i h. refl;
-      right = record {
-        solvable = c.requires.0;
-        ranks = c.ranks-rank.ensures;
-        slots_are = c.slots-slots.ensures;
-        rows_are = c.lines_for-rows.ensures;
-        codes_are = c.requires.1;
-        gone_is = c.missing_below-gone.ensures.count_is ∙ length-those _ _;
-      };
-    }
+  n_is = refl;
+  k_is = refl;
+  u_is = refl;
+  at_is = refl;
+  flags_are = λ i h. refl;
+  right = record {
+    solvable = c.requires.0;
+    ranks = c.ranks-rank.ensures;
+    slots_are = c.slots-slots.ensures;
+    rows_are = c.lines_for-rows.ensures;
+    codes_are = c.requires.1;
+    gone_is = c.missing_below-gone.ensures.count_is ∙ length-those _ _;
+  };
+}

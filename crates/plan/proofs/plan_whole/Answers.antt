@@ -1,6 +1,5 @@
 -- `plan::plan_whole`. Each part is what a group that misses nothing asks for.
 use mathlib.Core.Path.{refl}
-use borrow.Author.Rules.{rules}
 use Rattle.plan.specs.Whole.{whole_solvable, whole_ranks, whole_slots, whole-rows, whole-gone}
 use Rattle.plan.proofs.plan_whole.Goals as goal
 

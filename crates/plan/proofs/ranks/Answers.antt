@@ -1,9 +1,9 @@
 -- `plan::ranks`. The loop keeps: the ranks below i, and how many contents below i are missing.
-use mathlib.Core.Path.{◌≡◌, refl, sym, ap₂, ◌∙◌}
-use Prim.Native.Nat.{ℕ, ◌+◌, ◌-◌, ◌<◌, ◌≤◌}
+use mathlib.Core.Path.{refl, sym, ap₂, ◌∙◌}
+use Prim.Native.Nat.{◌+◌}
 use native.Mathlib.Nat.{not-suc-le-zero}
 use native.Mathlib.Omega.{arith}
-use lib.ListN.{length, get_or, length-set}
+use lib.ListN.{length-set}
 use Rattle.lists.specs.Count.{count, count-le, count_next}
 use Rattle.lists.specs.Pick.{bit_le}
 use Rattle.lists.specs.Tabulate.{fill_step}

@@ -1,11 +1,7 @@
-use mathlib.Core.Path.{◌≡◌, refl, sym, ap₂, ◌∙◌}
-use Prim.Native.Nat.{ℕ, ◌+◌, ◌-◌, ◌<◌, ◌≤◌}
-use native.Mathlib.Nat.{not-suc-le-zero}
-use native.Mathlib.Omega.{arith}
-use lib.ListN.{length, get_or, length-set}
-use Rattle.lists.specs.Count.{count, count-le, count_next}
-use Rattle.lists.specs.Pick.{bit_le}
-use Rattle.lists.specs.Tabulate.{fill_step}
+use mathlib.Core.Path.{◌≡◌}
+use Prim.Native.Nat.{ℕ, ◌-◌, ◌<◌, ◌≤◌}
+use lib.ListN.{length, get_or}
+use Rattle.lists.specs.Count.{count}
 use Rattle.parity.specs.Matrix.{flag}
 use Rattle.plan.proofs.ranks.Given as goal
 

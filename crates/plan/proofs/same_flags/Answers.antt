@@ -1,9 +1,7 @@
 -- `plan::same_flags`. The loop keeps: the flags below i are alike.
 use mathlib.Core.Path.{◌≡◌, refl, sym, ◌∙◌}
-use Prim.Native.Nat.{ℕ, ◌-◌, ◌<◌, ◌≤◌}
 use native.Mathlib.Nat.{not-suc-le-zero}
 use native.Mathlib.Omega.{arith}
-use borrow.Author.Tests.{not-false}
 use borrow.Author.Count.{below_more}
 use Rattle.lists.specs.Pick.{clash}
 use Rattle.parity.specs.Matrix.{flag}

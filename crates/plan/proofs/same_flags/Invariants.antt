@@ -1,12 +1,6 @@
-use mathlib.Core.Path.{◌≡◌, refl, sym, ◌∙◌}
+use mathlib.Core.Path.{◌≡◌}
 use Prim.Native.Nat.{ℕ, ◌-◌, ◌<◌, ◌≤◌}
-use native.Mathlib.Nat.{not-suc-le-zero}
-use native.Mathlib.Omega.{arith}
-use borrow.Author.Tests.{not-false}
-use borrow.Author.Count.{below_more}
-use Rattle.lists.specs.Pick.{clash}
 use Rattle.parity.specs.Matrix.{flag}
-use Rattle.plan.specs.Steps.{alike_same}
 use Rattle.plan.proofs.same_flags.Given as goal
 
 abbrev pub invariant-loop-i : goal.invariant-loop-i
