@@ -115,29 +115,29 @@ fn named(seed: &mut u64, slots: [Entry; 8]) -> Entry {
     }
 }
 
-fn print_number(w: Wide) {
-    number(w.first);
-    number(w.second);
+fn print_number(rt: &impl Print, w: Wide) {
+    number(rt, w.first);
+    number(rt, w.second);
 }
 
-fn print_key(key: Key) {
+fn print_key(rt: &impl Print, key: Key) {
     let file = key.file;
-    number(key.device);
-    print_number(file);
+    number(rt, key.device);
+    print_number(rt, file);
 }
 
-fn print_record(r: Entry) {
+fn print_record(rt: &impl Print, r: Entry) {
     let cob = r.cob;
-    print_key(entries::key_of(r));
-    print_number(cob);
+    print_key(rt, entries::key_of(r));
+    print_number(rt, cob);
 }
 
-fn print_change(given: usize, r: Entry, refusal: u64, count: usize) {
-    number(given as u64);
-    print_record(r);
-    number(refusal);
-    number(count as u64);
-    newline();
+fn print_change(rt: &impl Print, given: usize, r: Entry, refusal: u64, count: usize) {
+    number(rt, given as u64);
+    print_record(rt, r);
+    number(rt, refusal);
+    number(rt, count as u64);
+    newline(rt);
 }
 
 // After a change: the slots, and the count that holds from now on.
@@ -153,69 +153,69 @@ fn settled(after: Shelf, count: usize) -> Shelf {
     }
 }
 
-fn call_insert(slots: [Entry; 8], count: usize, given: usize, r: Entry) -> Shelf {
+fn call_insert(rt: &impl Print, slots: [Entry; 8], count: usize, given: usize, r: Entry) -> Shelf {
     let after = shelf::insert(slots, given, r);
-    text(b"insert");
-    print_change(given, r, after.refusal, after.count);
+    text(rt, b"insert");
+    print_change(rt, given, r, after.refusal, after.count);
     settled(after, count)
 }
 
-fn call_delete(slots: [Entry; 8], count: usize, given: usize, r: Entry) -> Shelf {
+fn call_delete(rt: &impl Print, slots: [Entry; 8], count: usize, given: usize, r: Entry) -> Shelf {
     let after = shelf::delete(slots, given, r);
-    text(b"delete");
-    print_change(given, r, after.refusal, after.count);
+    text(rt, b"delete");
+    print_change(rt, given, r, after.refusal, after.count);
     settled(after, count)
 }
 
-fn call_lookup(slots: [Entry; 8], given: usize, key: Key) {
+fn call_lookup(rt: &impl Print, slots: [Entry; 8], given: usize, key: Key) {
     let found = shelf::lookup(slots, given, key);
     let cob = found.cob;
-    text(b"lookup");
-    number(given as u64);
-    print_key(key);
-    number(found.refusal);
-    print_number(cob);
-    newline();
+    text(rt, b"lookup");
+    number(rt, given as u64);
+    print_key(rt, key);
+    number(rt, found.refusal);
+    print_number(rt, cob);
+    newline(rt);
 }
 
-fn print_sheet(sheet: Sheet) {
+fn print_sheet(rt: &impl Print, sheet: Sheet) {
     let next = sheet.next;
     let out = sheet.out;
-    number(sheet.refusal);
-    number(sheet.count as u64);
+    number(rt, sheet.refusal);
+    number(rt, sheet.count as u64);
     if sheet.more {
-        number(1);
+        number(rt, 1);
     } else {
-        number(0);
+        number(rt, 0);
     }
-    print_number(next);
-    print_number(out[0]);
-    print_number(out[1]);
-    print_number(out[2]);
-    print_number(out[3]);
-    newline();
+    print_number(rt, next);
+    print_number(rt, out[0]);
+    print_number(rt, out[1]);
+    print_number(rt, out[2]);
+    print_number(rt, out[3]);
+    newline(rt);
 }
 
-fn call_listing(slots: [Entry; 8], given: usize, key: Key) {
+fn call_listing(rt: &impl Print, slots: [Entry; 8], given: usize, key: Key) {
     let seven = Wide {
         first: 7,
         second: 7,
     };
     let sheet = shelf::listing(slots, given, key, [seven; 4]);
-    text(b"listing");
-    number(given as u64);
-    print_key(key);
-    print_sheet(sheet);
+    text(rt, b"listing");
+    number(rt, given as u64);
+    print_key(rt, key);
+    print_sheet(rt, sheet);
 }
 
 // A call that leaves the slots: a lookup, a listing from a file on, or one of all files of a device.
-fn call_reading(kind: u64, slots: [Entry; 8], given: usize, key: Key) {
+fn call_reading(rt: &impl Print, kind: u64, slots: [Entry; 8], given: usize, key: Key) {
     if kind == 7 {
-        call_lookup(slots, given, key);
+        call_lookup(rt, slots, given, key);
         return;
     }
     if kind == 8 {
-        call_listing(slots, given, key);
+        call_listing(rt, slots, given, key);
         return;
     }
     let file = no_number();
@@ -223,22 +223,22 @@ fn call_reading(kind: u64, slots: [Entry; 8], given: usize, key: Key) {
         device: key.device,
         file,
     };
-    call_listing(slots, given, all);
+    call_listing(rt, slots, given, all);
 }
 
 // One call: what it leaves is what the next one finds.
-fn one_call(seed: &mut u64, before: [Entry; 8], count: usize) -> Shelf {
+fn one_call(rt: &impl Print, seed: &mut u64, before: [Entry; 8], count: usize) -> Shelf {
     let slots = disturbed(seed, before);
     let kind = draw(seed, 10);
     let given = given_count(seed, count);
     let r = named(seed, slots);
     if kind < 5 {
-        return call_insert(slots, count, given, r);
+        return call_insert(rt, slots, count, given, r);
     }
     if kind < 7 {
-        return call_delete(slots, count, given, r);
+        return call_delete(rt, slots, count, given, r);
     }
-    call_reading(kind, slots, given, entries::key_of(r));
+    call_reading(rt, kind, slots, given, entries::key_of(r));
     Shelf {
         slots: slots,
         refusal: 0,
@@ -246,18 +246,18 @@ fn one_call(seed: &mut u64, before: [Entry; 8], count: usize) -> Shelf {
     }
 }
 
-fn print_slots(slots: [Entry; 8], count: usize) {
-    text(b"slots");
-    number(count as u64);
+fn print_slots(rt: &impl Print, slots: [Entry; 8], count: usize) {
+    text(rt, b"slots");
+    number(rt, count as u64);
     let mut i = 0;
     while i < 8 {
-        print_record(slots[i]);
+        print_record(rt, slots[i]);
         i += 1;
     }
-    newline();
+    newline(rt);
 }
 
-fn main() {
+fn main(rt: HostRuntime) {
     let mut seed: u64 = 50260505;
     let mut slots = no_entries();
     let mut count: usize = 0;
@@ -267,10 +267,10 @@ fn main() {
             slots = no_entries();
             count = 0;
         }
-        let after = one_call(&mut seed, slots, count);
+        let after = one_call(&rt, &mut seed, slots, count);
         slots = after.slots;
         count = after.count;
-        print_slots(slots, count);
+        print_slots(&rt, slots, count);
         c += 1;
     }
 }

@@ -10,31 +10,31 @@ use group_trial::{drawn, every};
 use numbers::Layout;
 use trial::{checksum, newline, number, text};
 
-fn print_units(l: Units) {
+fn print_units(rt: &impl Print, l: Units) {
     let at = l.at;
     let count = l.count;
-    number(count as u64);
+    number(rt, count as u64);
     let mut i: usize = 0;
     while i < count % 5 {
-        number(at[i]);
+        number(rt, at[i]);
         i += 1;
     }
 }
 
 // Encodes the first len bytes of the buffer, and prints the answer.
-fn encode(y: Layout, buffer: &mut [u8], len: usize) {
+fn encode(rt: &impl Print, y: Layout, buffer: &mut [u8], len: usize) {
     if buffer.len() < len {
         return;
     }
     let refusal = group::encode(y, &mut buffer[0..len]);
-    text(b"encode");
-    number(refusal);
-    number(checksum(&buffer[0..len]));
-    newline();
+    text(rt, b"encode");
+    number(rt, refusal);
+    number(rt, checksum(&buffer[0..len]));
+    newline(rt);
 }
 
 // Rebuilds the first len bytes of the buffer, and prints the list and the answer.
-fn rebuild(y: Layout, l: Units, buffer: &mut [u8], len: usize) {
+fn rebuild(rt: &impl Print, y: Layout, l: Units, buffer: &mut [u8], len: usize) {
     let at = l.at;
     let list = [at[0], at[1], at[2], at[3]];
     let count = l.count;
@@ -45,10 +45,10 @@ fn rebuild(y: Layout, l: Units, buffer: &mut [u8], len: usize) {
         return;
     }
     let refusal = group::rebuild(y, &list[0..count], &mut buffer[0..len]);
-    print_units(l);
-    number(refusal);
-    number(checksum(&buffer[0..len]));
-    newline();
+    print_units(rt, l);
+    number(rt, refusal);
+    number(rt, checksum(&buffer[0..len]));
+    newline(rt);
 }
 
 // Scribbles over unit v of the buffer.
@@ -83,29 +83,29 @@ fn scribble(seed: &mut u64, l: Units, unit: u64, buffer: &mut [u8])
 }
 
 // A call that is refused, of the kind that goes with the number of the group.
-fn refused(i: u64, g: Group, buffer: &mut [u8], e: usize)
+fn refused(rt: &impl Print, i: u64, g: Group, buffer: &mut [u8], e: usize)
     requires { Bounded g × (e ≤ 77824) }
 {
     let kind = i % 10;
     let y = drawn::refused_layout(g, kind);
     let len = drawn::refused_length(e, kind);
-    text(b"refused");
-    number(kind);
-    rebuild(y, drawn::refused_units(g, kind), buffer, len);
-    encode(y, buffer, len);
+    text(rt, b"refused");
+    number(rt, kind);
+    rebuild(rt, y, drawn::refused_units(g, kind), buffer, len);
+    encode(rt, y, buffer, len);
 }
 
-fn announce(i: u64, g: Group) {
-    text(b"group");
-    number(i);
-    number(g.n);
-    number(g.k);
-    number(g.u);
-    newline();
+fn announce(rt: &impl Print, i: u64, g: Group) {
+    text(rt, b"group");
+    number(rt, i);
+    number(rt, g.n);
+    number(rt, g.k);
+    number(rt, g.u);
+    newline(rt);
 }
 
 // A group that was encoded, with some units scribbled over, rebuilt.
-fn agreeing(seed: &mut u64, g: Group, buffer: &mut [u8], e: usize)
+fn agreeing(rt: &impl Print, seed: &mut u64, g: Group, buffer: &mut [u8], e: usize)
     requires { Bounded g }
 {
     if buffer.len() < e {
@@ -113,15 +113,15 @@ fn agreeing(seed: &mut u64, g: Group, buffer: &mut [u8], e: usize)
     }
     let y = drawn::layout_of(g);
     trial::fill(seed, &mut buffer[0..e]);
-    encode(y, buffer, e);
+    encode(rt, y, buffer, e);
     let l = drawn::units_by(seed, g);
     scribble(seed, l, g.u, buffer);
-    text(b"agreeing");
-    rebuild(y, l, buffer, e);
+    text(rt, b"agreeing");
+    rebuild(rt, y, l, buffer, e);
 }
 
 // A group of any bytes, rebuilt.
-fn disagreeing(seed: &mut u64, g: Group, buffer: &mut [u8], e: usize)
+fn disagreeing(rt: &impl Print, seed: &mut u64, g: Group, buffer: &mut [u8], e: usize)
     requires { Bounded g }
 {
     if buffer.len() < e {
@@ -130,30 +130,30 @@ fn disagreeing(seed: &mut u64, g: Group, buffer: &mut [u8], e: usize)
     let y = drawn::layout_of(g);
     trial::fill(seed, &mut buffer[0..e]);
     let l = drawn::units_by(seed, g);
-    text(b"disagreeing");
-    rebuild(y, l, buffer, e);
+    text(rt, b"disagreeing");
+    rebuild(rt, y, l, buffer, e);
 }
 
-fn group_number(i: u64, seed: &mut u64, buffer: &mut [u8]) {
+fn group_number(rt: &impl Print, i: u64, seed: &mut u64, buffer: &mut [u8]) {
     let g = drawn::group_by(seed);
     let e = drawn::times(g.n + g.k, g.u) as usize;
-    announce(i, g);
-    agreeing(seed, g, buffer, e);
-    disagreeing(seed, g, buffer, e);
-    refused(i, g, buffer, e);
+    announce(rt, i, g);
+    agreeing(rt, seed, g, buffer, e);
+    disagreeing(rt, seed, g, buffer, e);
+    refused(rt, i, g, buffer, e);
 }
 
-fn groups(seed: &mut u64, buffer: &mut [u8]) {
+fn groups(rt: &impl Print, seed: &mut u64, buffer: &mut [u8]) {
     let mut i: u64 = 0;
     while i < 320 {
-        group_number(i, seed, buffer);
+        group_number(rt, i, seed, buffer);
         i += 1;
     }
 }
 
-fn main() {
+fn main(rt: HostRuntime) {
     let mut seed: u64 = 30260303;
     let mut buffer = [0u8; 65536];
-    groups(&mut seed, &mut buffer);
-    every::sizes(&mut buffer);
+    groups(&rt, &mut seed, &mut buffer);
+    every::sizes(&rt, &mut buffer);
 }

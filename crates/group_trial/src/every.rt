@@ -77,7 +77,7 @@ fn one(buffer: &mut [u8], g: Group, x: u64, sum: u64) -> u64
     sum_over(next, &buffer[0..len])
 }
 
-fn size(buffer: &mut [u8], g: Group)
+fn size(rt: &impl Print, buffer: &mut [u8], g: Group)
     requires { Bounded g }
 {
     let total = lists_of(g.n + g.k, g.k);
@@ -87,20 +87,20 @@ fn size(buffer: &mut [u8], g: Group)
         sum = one(buffer, g, x, sum);
         x += 1;
     }
-    text(b"every");
-    number(g.n);
-    number(g.k);
-    number(total);
-    number(sum);
-    newline();
+    text(rt, b"every");
+    number(rt, g.n);
+    number(rt, g.k);
+    number(rt, total);
+    number(rt, sum);
+    newline(rt);
 }
 
-pub fn sizes(buffer: &mut [u8]) {
+pub fn sizes(rt: &impl Print, buffer: &mut [u8]) {
     let mut n: u64 = 1;
     while n < 17 {
-        size(buffer, Group { n, k: 1, u: 1 });
-        size(buffer, Group { n, k: 2, u: 1 });
-        size(buffer, Group { n, k: 3, u: 1 });
+        size(rt, buffer, Group { n, k: 1, u: 1 });
+        size(rt, buffer, Group { n, k: 2, u: 1 });
+        size(rt, buffer, Group { n, k: 3, u: 1 });
         n += 1;
     }
 }

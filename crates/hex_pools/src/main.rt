@@ -4,7 +4,6 @@
 ghost use Rattle.std.specs.Prelude.{◌≤◌};
 
 use hexline::hex_line;
-use libc::STDOUT_FILENO;
 use numbers::Layout;
 use trial::{draw, newline, number, text};
 
@@ -19,16 +18,16 @@ fn blur(line: &mut [u8]) {
     }
 }
 
-fn print_pool(y: Layout) {
-    text(b"pool");
-    number(y.n);
-    number(y.k);
-    number(y.p);
-    number(y.u);
-    number(y.t);
-    number(y.cookie);
-    number(y.edition);
-    newline();
+fn print_pool(rt: &impl Print, y: Layout) {
+    text(rt, b"pool");
+    number(rt, y.n);
+    number(rt, y.k);
+    number(rt, y.p);
+    number(rt, y.u);
+    number(rt, y.t);
+    number(rt, y.cookie);
+    number(rt, y.edition);
+    newline(rt);
 }
 
 // The length of a line, 0 where the unit is too long.
@@ -41,37 +40,44 @@ fn line_length(u: u64) -> usize
     (11 + 2 * u) as usize
 }
 
-fn show_line(y: Layout, image: &[u8], target: u64, frame: u64, line: &mut [u8]) {
+fn show_line(rt: &impl Print, y: Layout, image: &[u8], target: u64, frame: u64, line: &mut [u8]) {
     blur(line);
     hex_line(y, image, target, frame, line);
-    text(line);
+    text(rt, line);
 }
 
-fn show_target(y: Layout, image: &[u8], target: u64, frames: u64, line: &mut [u8]) {
+fn show_target(
+    rt: &impl Print,
+    y: Layout,
+    image: &[u8],
+    target: u64,
+    frames: u64,
+    line: &mut [u8],
+) {
     let mut frame = 0;
     while frame < frames {
-        show_line(y, image, target, frame, line);
+        show_line(rt, y, image, target, frame, line);
         frame += 1;
     }
 }
 
-fn show_targets(y: Layout, image: &[u8], frames: u64, line: &mut [u8]) {
+fn show_targets(rt: &impl Print, y: Layout, image: &[u8], frames: u64, line: &mut [u8]) {
     let targets = y.p;
     let mut target = 0;
     while target < targets {
-        show_target(y, image, target, frames, line);
+        show_target(rt, y, image, target, frames, line);
         target += 1;
     }
 }
 
-fn show_pool(y: Layout, image: &[u8], frames: u64) {
+fn show_pool(rt: &impl Print, y: Layout, image: &[u8], frames: u64) {
     let mut space = [0u8; 8203];
     let len = line_length(y.u);
-    print_pool(y);
-    show_targets(y, image, frames, &mut space[..len]);
+    print_pool(rt, y);
+    show_targets(rt, y, image, frames, &mut space[..len]);
 }
 
-fn first_pool() {
+fn first_pool(rt: &impl Print) {
     let y = Layout {
         n: 1,
         k: 1,
@@ -81,7 +87,7 @@ fn first_pool() {
         cookie: 0,
         edition: 1,
     };
-    show_pool(y, b"\x00\x00ABAB", 1);
+    show_pool(rt, y, b"\x00\x00ABAB", 1);
 }
 
 fn drawn_layout(seed: &mut u64) -> Layout {
@@ -103,7 +109,7 @@ fn drawn_layout(seed: &mut u64) -> Layout {
     }
 }
 
-fn drawn_pool(seed: &mut u64, space: &mut [u8]) {
+fn drawn_pool(rt: &impl Print, seed: &mut u64, space: &mut [u8]) {
     let y = drawn_layout(seed);
     let m = layout::measure(y);
     let numbers = m.numbers;
@@ -112,28 +118,28 @@ fn drawn_pool(seed: &mut u64, space: &mut [u8]) {
         return;
     }
     trial::fill(seed, &mut space[..size]);
-    show_pool(y, &space[..size], numbers.frames);
+    show_pool(rt, y, &space[..size], numbers.frames);
 }
 
-fn drawn_pools(seed: &mut u64, space: &mut [u8]) {
+fn drawn_pools(rt: &impl Print, seed: &mut u64, space: &mut [u8]) {
     let mut i: u64 = 0;
     while i < 24 {
-        drawn_pool(seed, space);
+        drawn_pool(rt, seed, space);
         i += 1;
     }
 }
 
-fn show_ten(y: Layout, image: &[u8], line: &mut [u8]) {
+fn show_ten(rt: &impl Print, y: Layout, image: &[u8], line: &mut [u8]) {
     let frames: [u64; 10] = [0, 15, 16, 255, 256, 4095, 4096, 48879, 65534, 65535];
     let mut i = 0;
     while i < 10 {
-        show_line(y, image, 0, frames[i], line);
+        show_line(rt, y, image, 0, frames[i], line);
         i += 1;
     }
 }
 
 // A pool of 65,536 frames of one byte, at ten of them.
-fn long_pool(seed: &mut u64, image: &mut [u8]) {
+fn long_pool(rt: &impl Print, seed: &mut u64, image: &mut [u8]) {
     let y = Layout {
         n: 1,
         k: 0,
@@ -145,31 +151,31 @@ fn long_pool(seed: &mut u64, image: &mut [u8]) {
     };
     let mut line = [0u8; 13];
     trial::fill(seed, image);
-    print_pool(y);
-    show_ten(y, image, &mut line);
+    print_pool(rt, y);
+    show_ten(rt, y, image, &mut line);
 }
 
-fn sum_line(y: Layout, image: &[u8], target: u64, line: &mut [u8]) {
+fn sum_line(rt: &impl Print, y: Layout, image: &[u8], target: u64, line: &mut [u8]) {
     blur(line);
     let refusal = hex_line(y, image, target, 0, line);
-    text(b"sum");
-    number(target);
-    number(refusal);
-    number(trial::checksum(line));
-    newline();
+    text(rt, b"sum");
+    number(rt, target);
+    number(rt, refusal);
+    number(rt, trial::checksum(line));
+    newline(rt);
 }
 
-fn sum_lines(y: Layout, image: &[u8], line: &mut [u8]) {
+fn sum_lines(rt: &impl Print, y: Layout, image: &[u8], line: &mut [u8]) {
     let targets = y.p;
     let mut target = 0;
     while target < targets {
-        sum_line(y, image, target, line);
+        sum_line(rt, y, image, target, line);
         target += 1;
     }
 }
 
 // A pool of one frame a target, by the checksums of its lines.
-fn summed_pool(seed: &mut u64, p: u64, u: u64, image: &mut [u8]) {
+fn summed_pool(rt: &impl Print, seed: &mut u64, p: u64, u: u64, image: &mut [u8]) {
     let y = Layout {
         n: 1,
         k: 0,
@@ -182,35 +188,36 @@ fn summed_pool(seed: &mut u64, p: u64, u: u64, image: &mut [u8]) {
     let mut space = [0u8; 8203];
     let len = line_length(u);
     trial::fill(seed, image);
-    print_pool(y);
-    sum_lines(y, image, &mut space[..len]);
+    print_pool(rt, y);
+    sum_lines(rt, y, image, &mut space[..len]);
 }
 
-fn print_bytes(bytes: [u8; 20]) {
-    text(b" ");
+fn print_bytes(rt: &impl Print, bytes: [u8; 20]) {
+    text(rt, b" ");
     let mut i = 0;
     while i < 20 {
-        io::print_hex(STDOUT_FILENO, trial::wide_byte(bytes[i]), 2);
+        let byte = bytes[i];
+        let _ = print!(rt; "{byte:02x}");
         i += 1;
     }
 }
 
-fn tried_line(y: Layout, size: usize, target: u64, frame: u64, len: usize)
+fn tried_line(rt: &impl Print, y: Layout, size: usize, target: u64, frame: u64, len: usize)
     requires fact_1 { size ≤ 8 }
     requires fact_2 { len ≤ 20 }
 {
     let image = [0u8, 0, 65, 66, 65, 66, 67, 68];
     let mut buffer = [170u8; 20];
     let refusal = hex_line(y, &image[..size], target, frame, &mut buffer[..len]);
-    text(b"line");
-    number(y.u);
-    number(size as u64);
-    number(target);
-    number(frame);
-    number(len as u64);
-    number(refusal);
-    print_bytes(buffer);
-    newline();
+    text(rt, b"line");
+    number(rt, y.u);
+    number(rt, size as u64);
+    number(rt, target);
+    number(rt, frame);
+    number(rt, len as u64);
+    number(rt, refusal);
+    print_bytes(rt, buffer);
+    newline(rt);
 }
 
 fn three(u: u64, edition: u64) -> Layout {
@@ -226,7 +233,7 @@ fn three(u: u64, edition: u64) -> Layout {
 }
 
 // Each refusal alone, and several at once.
-fn tried_lines() {
+fn tried_lines(rt: &impl Print) {
     let ones = Layout {
         n: ONES,
         k: ONES,
@@ -236,41 +243,41 @@ fn tried_lines() {
         cookie: ONES,
         edition: ONES,
     };
-    tried_line(three(2, 1), 6, 2, 0, 15);
-    tried_line(three(0, 1), 6, 2, 0, 15);
-    tried_line(ones, 6, 2, 0, 15);
-    tried_line(three(2, 0), 6, 2, 0, 15);
-    tried_line(three(2, 3), 6, 2, 0, 15);
-    tried_line(three(2, 1), 5, 2, 0, 15);
-    tried_line(three(2, 1), 7, 2, 0, 15);
-    tried_line(three(2, 1), 0, 2, 0, 15);
-    tried_line(three(2, 1), 6, 3, 0, 15);
-    tried_line(three(2, 1), 6, ONES, 0, 15);
-    tried_line(three(2, 1), 6, 2, 1, 15);
-    tried_line(three(2, 1), 6, 2, ONES, 15);
-    tried_line(three(2, 1), 6, 2, 0, 14);
-    tried_line(three(2, 1), 6, 2, 0, 16);
-    tried_line(three(2, 1), 6, 2, 0, 0);
-    tried_line(three(0, 1), 5, 3, 1, 14);
-    tried_line(three(2, 1), 5, 3, 1, 14);
-    tried_line(three(2, 1), 6, 3, 1, 14);
+    tried_line(rt, three(2, 1), 6, 2, 0, 15);
+    tried_line(rt, three(0, 1), 6, 2, 0, 15);
+    tried_line(rt, ones, 6, 2, 0, 15);
+    tried_line(rt, three(2, 0), 6, 2, 0, 15);
+    tried_line(rt, three(2, 3), 6, 2, 0, 15);
+    tried_line(rt, three(2, 1), 5, 2, 0, 15);
+    tried_line(rt, three(2, 1), 7, 2, 0, 15);
+    tried_line(rt, three(2, 1), 0, 2, 0, 15);
+    tried_line(rt, three(2, 1), 6, 3, 0, 15);
+    tried_line(rt, three(2, 1), 6, ONES, 0, 15);
+    tried_line(rt, three(2, 1), 6, 2, 1, 15);
+    tried_line(rt, three(2, 1), 6, 2, ONES, 15);
+    tried_line(rt, three(2, 1), 6, 2, 0, 14);
+    tried_line(rt, three(2, 1), 6, 2, 0, 16);
+    tried_line(rt, three(2, 1), 6, 2, 0, 0);
+    tried_line(rt, three(0, 1), 5, 3, 1, 14);
+    tried_line(rt, three(2, 1), 5, 3, 1, 14);
+    tried_line(rt, three(2, 1), 6, 3, 1, 14);
 }
 
 // The two pools that are shown by checksums, in the first bytes of a space and in the whole of it.
-fn summed_pools(seed: &mut u64, space: &mut [u8]) {
+fn summed_pools(rt: &impl Print, seed: &mut u64, space: &mut [u8]) {
     if space.len() < 1024 {
         return;
     }
-    summed_pool(seed, 64, 16, &mut space[..1024]);
-    summed_pool(seed, 16, 4096, space);
+    summed_pool(rt, seed, 64, 16, &mut space[..1024]);
+    summed_pool(rt, seed, 16, 4096, space);
 }
 
-fn main() {
+fn main(rt: HostRuntime) {
     let mut seed: u64 = 50260606;
-    let mut space = io::large_buffer();
-    first_pool();
-    drawn_pools(&mut seed, &mut space);
-    long_pool(&mut seed, &mut space);
-    summed_pools(&mut seed, &mut space);
-    tried_lines();
+    let mut space = [0u8; 65536];
+    first_pool(&rt);
+    drawn_pools(&rt, &mut seed, &mut space);
+    long_pool(&rt, &mut seed, &mut space);
+    summed_pools(&rt, &mut seed, &mut space);
+    tried_lines(&rt);
 }

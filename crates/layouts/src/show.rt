@@ -35,238 +35,238 @@ fn below(seed: &mut u64, n: u64) -> u64 {
 
 // ---- the lines
 
-pub fn head(label: &[u8], y: Layout) {
-    text(label);
-    number(y.n);
-    number(y.k);
-    number(y.p);
-    number(y.u);
-    number(y.t);
-    number(y.cookie);
-    number(y.edition);
-    newline();
+pub fn head(rt: &impl Print, label: &[u8], y: Layout) {
+    text(rt, label);
+    number(rt, y.n);
+    number(rt, y.k);
+    number(rt, y.p);
+    number(rt, y.u);
+    number(rt, y.t);
+    number(rt, y.cookie);
+    number(rt, y.edition);
+    newline(rt);
 }
 
-pub fn numbers(y: Layout) -> Numbers {
+pub fn numbers(rt: &impl Print, y: Layout) -> Numbers {
     let answer = layout::measure(y);
     let m = answer.numbers;
-    text(b"numbers");
-    number(answer.refusal);
-    number(m.w);
-    number(m.b);
-    number(m.l);
-    number(m.c);
-    number(m.frames);
-    number(m.groups);
-    number(m.capacity);
-    number(m.image);
-    newline();
+    text(rt, b"numbers");
+    number(rt, answer.refusal);
+    number(rt, m.w);
+    number(rt, m.b);
+    number(rt, m.l);
+    number(rt, m.c);
+    number(rt, m.frames);
+    number(rt, m.groups);
+    number(rt, m.capacity);
+    number(rt, m.image);
+    newline(rt);
     m
 }
 
-fn entries(label: &[u8], tile: u64, refusal: u64, list: [u8; 64]) {
-    text(label);
-    number(tile);
-    number(refusal);
+fn entries(rt: &impl Print, label: &[u8], tile: u64, refusal: u64, list: [u8; 64]) {
+    text(rt, label);
+    number(rt, tile);
+    number(rt, refusal);
     for i in 0usize..64 {
-        number(list[i] as u64);
+        number(rt, list[i] as u64);
     }
-    newline();
+    newline(rt);
 }
 
-pub fn tile(y: Layout, tile: u64) {
+pub fn tile(rt: &impl Print, y: Layout, tile: u64) {
     let forth = layout::tile_permutation(y, tile);
     let there = forth.entries;
-    entries(b"permutation", tile, forth.refusal, there);
+    entries(rt, b"permutation", tile, forth.refusal, there);
     let back = layout::tile_inverse(y, tile);
     let again = back.entries;
-    entries(b"inverse", tile, back.refusal, again);
+    entries(rt, b"inverse", tile, back.refusal, again);
 }
 
-pub fn place(y: Layout, group: u64, unit: u64) {
+pub fn place(rt: &impl Print, y: Layout, group: u64, unit: u64) {
     let at = layout::find_place(y, group, unit);
-    text(b"place");
-    number(group);
-    number(unit);
-    number(at.refusal);
-    number(at.frame);
-    number(at.target);
-    number(at.begins);
+    text(rt, b"place");
+    number(rt, group);
+    number(rt, unit);
+    number(rt, at.refusal);
+    number(rt, at.frame);
+    number(rt, at.target);
+    number(rt, at.begins);
     let held = layout::find_unit(y, at.frame, at.target);
-    number(held.refusal);
-    number(held.group);
-    number(held.unit);
-    newline();
+    number(rt, held.refusal);
+    number(rt, held.group);
+    number(rt, held.unit);
+    newline(rt);
 }
 
-pub fn back(y: Layout, frame: u64, target: u64) {
+pub fn back(rt: &impl Print, y: Layout, frame: u64, target: u64) {
     let held = layout::find_unit(y, frame, target);
-    text(b"back");
-    number(frame);
-    number(target);
-    number(held.refusal);
-    number(held.group);
-    number(held.unit);
-    newline();
+    text(rt, b"back");
+    number(rt, frame);
+    number(rt, target);
+    number(rt, held.refusal);
+    number(rt, held.group);
+    number(rt, held.unit);
+    newline(rt);
 }
 
-pub fn offset(y: Layout, x: u64) {
+pub fn offset(rt: &impl Print, y: Layout, x: u64) {
     let at = layout::map_offset(y, x);
-    text(b"offset");
-    number(x);
-    number(at.refusal);
-    number(at.group);
-    number(at.unit);
-    number(at.byte);
-    number(at.image);
-    newline();
+    text(rt, b"offset");
+    number(rt, x);
+    number(rt, at.refusal);
+    number(rt, at.group);
+    number(rt, at.unit);
+    number(rt, at.byte);
+    number(rt, at.image);
+    newline(rt);
 }
 
 // A flag in the line, as 1 or 0.
-fn flag(set: bool) {
+fn flag(rt: &impl Print, set: bool) {
     if set {
-        number(1);
+        number(rt, 1);
     } else {
-        number(0);
+        number(rt, 0);
     }
 }
 
-pub fn byte(y: Layout, x: u64) {
+pub fn byte(rt: &impl Print, y: Layout, x: u64) {
     let at = layout::map_byte(y, x);
-    text(b"byte");
-    number(x);
-    number(at.refusal);
-    number(at.group);
-    number(at.unit);
-    number(at.byte);
-    flag(at.is_data);
-    number(at.offset);
-    newline();
+    text(rt, b"byte");
+    number(rt, x);
+    number(rt, at.refusal);
+    number(rt, at.group);
+    number(rt, at.unit);
+    number(rt, at.byte);
+    flag(rt, at.is_data);
+    number(rt, at.offset);
+    newline(rt);
 }
 
-fn cursor(at: Cursor) {
-    number(at.target);
-    number(at.frame);
-    newline();
+fn cursor(rt: &impl Print, at: Cursor) {
+    number(rt, at.target);
+    number(rt, at.frame);
+    newline(rt);
 }
 
-pub fn step(y: Layout, target: u64, frame: u64) {
+pub fn step(rt: &impl Print, y: Layout, target: u64, frame: u64) {
     let at = Cursor { target, frame };
-    text(b"walk");
-    number(target);
-    number(frame);
+    text(rt, b"walk");
+    number(rt, target);
+    number(rt, frame);
     let found = at.step(y);
     match found {
         Step::At(unit, next) => {
-            text(b" at");
-            number(unit.group);
-            number(unit.unit);
-            cursor(next);
+            text(rt, b" at");
+            number(rt, unit.group);
+            number(rt, unit.unit);
+            cursor(rt, next);
         }
         Step::Done(same) => {
-            text(b" done");
-            cursor(same);
+            text(rt, b" done");
+            cursor(rt, same);
         }
         Step::Refused(refusal, same) => {
-            text(b" refused");
-            number(refusal);
-            cursor(same);
+            text(rt, b" refused");
+            number(rt, refusal);
+            cursor(rt, same);
         }
     }
 }
 
 // ---- a whole layout
 
-fn tiles(y: Layout) {
-    tile(y, 0);
-    tile(y, y.t / 2);
-    tile(y, before(y.t));
-    tile(y, y.t);
-    tile(y, ONES);
+fn tiles(rt: &impl Print, y: Layout) {
+    tile(rt, y, 0);
+    tile(rt, y, y.t / 2);
+    tile(rt, y, before(y.t));
+    tile(rt, y, y.t);
+    tile(rt, y, ONES);
 }
 
 // Each unit of a group, and the first that is none.
-fn group(y: Layout, g: u64, width: u64) {
+fn group(rt: &impl Print, y: Layout, g: u64, width: u64) {
     for unit in 0u64..23 {
         if unit <= width {
-            place(y, g, unit);
+            place(rt, y, g, unit);
         }
     }
 }
 
-fn places(y: Layout, m: Numbers, seed: &mut u64) {
+fn places(rt: &impl Print, y: Layout, m: Numbers, seed: &mut u64) {
     let first = rem(trial::wide(seed), m.groups);
     let second = rem(trial::wide(seed), m.groups);
-    group(y, 0, m.w);
-    group(y, first, m.w);
-    group(y, second, m.w);
-    group(y, before(m.groups), m.w);
-    group(y, m.groups, m.w);
-    place(y, ONES, 0);
-    place(y, 0, ONES);
+    group(rt, y, 0, m.w);
+    group(rt, y, first, m.w);
+    group(rt, y, second, m.w);
+    group(rt, y, before(m.groups), m.w);
+    group(rt, y, m.groups, m.w);
+    place(rt, y, ONES, 0);
+    place(rt, y, 0, ONES);
 }
 
-fn backs(y: Layout, m: Numbers, seed: &mut u64) {
+fn backs(rt: &impl Print, y: Layout, m: Numbers, seed: &mut u64) {
     for i in 0u64..4 {
         let frame = rem(trial::wide(seed), m.frames);
         let target = below(seed, y.p);
-        back(y, frame, target);
+        back(rt, y, frame, target);
     }
-    back(y, before(m.frames), before(y.p));
-    back(y, m.frames, 0);
-    back(y, 0, y.p);
-    back(y, ONES, 0);
-    back(y, 0, ONES);
+    back(rt, y, before(m.frames), before(y.p));
+    back(rt, y, m.frames, 0);
+    back(rt, y, 0, y.p);
+    back(rt, y, ONES, 0);
+    back(rt, y, 0, ONES);
 }
 
-fn offsets(y: Layout, m: Numbers, seed: &mut u64) {
+fn offsets(rt: &impl Print, y: Layout, m: Numbers, seed: &mut u64) {
     let first = rem(trial::wider(seed), m.capacity);
     let second = rem(trial::wider(seed), m.capacity);
-    offset(y, 0);
-    offset(y, 1);
-    offset(y, first);
-    offset(y, second);
-    offset(y, before(m.capacity));
-    offset(y, m.capacity);
-    offset(y, ONES);
+    offset(rt, y, 0);
+    offset(rt, y, 1);
+    offset(rt, y, first);
+    offset(rt, y, second);
+    offset(rt, y, before(m.capacity));
+    offset(rt, y, m.capacity);
+    offset(rt, y, ONES);
 }
 
-fn bytes(y: Layout, m: Numbers, seed: &mut u64) {
+fn bytes(rt: &impl Print, y: Layout, m: Numbers, seed: &mut u64) {
     let first = rem(trial::wider(seed), m.image);
     let second = rem(trial::wider(seed), m.image);
-    byte(y, 0);
-    byte(y, 1);
-    byte(y, first);
-    byte(y, second);
-    byte(y, before(m.image));
-    byte(y, m.image);
-    byte(y, ONES);
+    byte(rt, y, 0);
+    byte(rt, y, 1);
+    byte(rt, y, first);
+    byte(rt, y, second);
+    byte(rt, y, before(m.image));
+    byte(rt, y, m.image);
+    byte(rt, y, ONES);
 }
 
-fn walk(y: Layout, m: Numbers, target: u64) {
-    step(y, target, 0);
-    step(y, target, 1);
-    step(y, target, before(m.frames));
-    step(y, target, m.frames);
-    step(y, target, after(m.frames));
-    step(y, target, ONES);
+fn walk(rt: &impl Print, y: Layout, m: Numbers, target: u64) {
+    step(rt, y, target, 0);
+    step(rt, y, target, 1);
+    step(rt, y, target, before(m.frames));
+    step(rt, y, target, m.frames);
+    step(rt, y, target, after(m.frames));
+    step(rt, y, target, ONES);
 }
 
-fn walks(y: Layout, m: Numbers, seed: &mut u64) {
+fn walks(rt: &impl Print, y: Layout, m: Numbers, seed: &mut u64) {
     let target = below(seed, y.p);
-    walk(y, m, 0);
-    walk(y, m, target);
-    walk(y, m, y.p);
-    walk(y, m, ONES);
+    walk(rt, y, m, 0);
+    walk(rt, y, m, target);
+    walk(rt, y, m, y.p);
+    walk(rt, y, m, ONES);
 }
 
-pub fn whole(y: Layout, seed: &mut u64) {
-    head(b"layout", y);
-    let m = numbers(y);
-    tiles(y);
-    places(y, m, seed);
-    backs(y, m, seed);
-    offsets(y, m, seed);
-    bytes(y, m, seed);
-    walks(y, m, seed);
+pub fn whole(rt: &impl Print, y: Layout, seed: &mut u64) {
+    head(rt, b"layout", y);
+    let m = numbers(rt, y);
+    tiles(rt, y);
+    places(rt, y, m, seed);
+    backs(rt, y, m, seed);
+    offsets(rt, y, m, seed);
+    bytes(rt, y, m, seed);
+    walks(rt, y, m, seed);
 }

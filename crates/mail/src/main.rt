@@ -41,45 +41,45 @@ fn append(piece: &[u8], copy: &mut [u8], from: usize) -> usize {
 
 // ---- what is said of an answer
 
-fn say_zeros(what: &[u8], bytes: &[u8]) {
-    text(what);
+fn say_zeros(rt: &impl Print, what: &[u8], bytes: &[u8]) {
+    text(rt, what);
     if is_zeros(bytes) {
-        text(b" is zeros\n");
+        text(rt, b" is zeros\n");
         return;
     }
-    text(b" is NOT zeros\n");
+    text(rt, b" is NOT zeros\n");
 }
 
 // ---- one call and its answer
 
 // Opens a letter that must be refused.
-fn refused(what: &[u8], y: Layout, letter: &[u8], image: &mut [u8]) {
+fn refused(rt: &impl Print, what: &[u8], y: Layout, letter: &[u8], image: &mut [u8]) {
     blur(image);
     let opened = pool_text::read_text(y, letter, image);
-    text(what);
-    text(b": ");
-    answer(opened.refusal);
-    text(b", line ");
-    decimal(opened.line);
-    text(b"; ");
-    say_zeros(b"the image", image);
+    text(rt, what);
+    text(rt, b": ");
+    answer(rt, opened.refusal);
+    text(rt, b", line ");
+    decimal(rt, opened.line);
+    text(rt, b"; ");
+    say_zeros(rt, b"the image", image);
 }
 
 // Writes a letter that must be refused.
-fn unwritten(what: &[u8], y: Layout, image: &[u8], letter: &mut [u8]) {
+fn unwritten(rt: &impl Print, what: &[u8], y: Layout, image: &[u8], letter: &mut [u8]) {
     blur(letter);
     let refusal = pool_text::write_text(y, image, letter);
-    text(what);
-    text(b": ");
-    answer(refusal);
-    text(b"; ");
-    say_zeros(b"the text", letter);
+    text(rt, what);
+    text(rt, b": ");
+    answer(rt, refusal);
+    text(rt, b"; ");
+    say_zeros(rt, b"the text", letter);
 }
 
 // ---- letters damaged on their way
 
 // Opens the letter with its characters from `from` up to `to` replaced by `put`.
-fn damaged(what: &[u8], letter: &[u8], from: usize, to: usize, put: &[u8]) {
+fn damaged(rt: &impl Print, what: &[u8], letter: &[u8], from: usize, to: usize, put: &[u8]) {
     if letter.len() < to {
         return;
     }
@@ -94,27 +94,36 @@ fn damaged(what: &[u8], letter: &[u8], from: usize, to: usize, put: &[u8]) {
         return;
     }
     let mut image = [0u8; 160];
-    refused(what, row(), &copy[0..len], &mut image);
+    refused(rt, what, row(), &copy[0..len], &mut image);
 }
 
 // Line i of the letter begins at 27 * (i - 1); its first digit of a byte is ten characters further on.
-fn damaged_characters(letter: &[u8]) {
-    damaged(b"A digit of line 2 in upper case", letter, 40, 41, b"F");
+fn damaged_characters(rt: &impl Print, letter: &[u8]) {
+    damaged(rt, b"A digit of line 2 in upper case", letter, 40, 41, b"F");
     damaged(
+        rt,
         b"A carriage return at the end of line 3",
         letter,
         80,
         80,
         b"\r",
     );
-    damaged(b"Two spaces in line 4", letter, 83, 84, b"  ");
-    damaged(b"A digit missing in line 9", letter, 232, 233, b"");
-    damaged(b"A digit too many in line 10", letter, 260, 260, b"0");
-    damaged(b"A byte 0 in line 11", letter, 285, 286, b"\x00");
-    damaged(b"A byte 200 in line 12", letter, 310, 311, b"\xc8");
-    damaged(b"Another frame's number in line 13", letter, 332, 333, b"4");
-    damaged(b"A letter past f in line 14", letter, 362, 363, b"g");
+    damaged(rt, b"Two spaces in line 4", letter, 83, 84, b"  ");
+    damaged(rt, b"A digit missing in line 9", letter, 232, 233, b"");
+    damaged(rt, b"A digit too many in line 10", letter, 260, 260, b"0");
+    damaged(rt, b"A byte 0 in line 11", letter, 285, 286, b"\x00");
+    damaged(rt, b"A byte 200 in line 12", letter, 310, 311, b"\xc8");
     damaged(
+        rt,
+        b"Another frame's number in line 13",
+        letter,
+        332,
+        333,
+        b"4",
+    );
+    damaged(rt, b"A letter past f in line 14", letter, 362, 363, b"g");
+    damaged(
+        rt,
         b"A space for the newline of line 15",
         letter,
         404,
@@ -123,28 +132,35 @@ fn damaged_characters(letter: &[u8]) {
     );
 }
 
-fn damaged_lines(letter: &[u8]) {
+fn damaged_lines(rt: &impl Print, letter: &[u8]) {
     if letter.len() < 540 {
         return;
     }
-    damaged(b"Line 6 repeated", letter, 162, 162, &letter[135..162]);
-    damaged(b"Line 7 left out", letter, 162, 189, b"");
-    damaged(b"An empty line after line 8", letter, 216, 216, b"\n");
-    damaged(b"A greeting before line 1", letter, 0, 0, b"Hello\n");
+    damaged(rt, b"Line 6 repeated", letter, 162, 162, &letter[135..162]);
+    damaged(rt, b"Line 7 left out", letter, 162, 189, b"");
+    damaged(rt, b"An empty line after line 8", letter, 216, 216, b"\n");
+    damaged(rt, b"A greeting before line 1", letter, 0, 0, b"Hello\n");
 }
 
-fn damaged_ends(letter: &[u8]) {
+fn damaged_ends(rt: &impl Print, letter: &[u8]) {
     if letter.len() < 540 {
         return;
     }
-    damaged(b"The last newline missing", letter, 539, 540, b"");
-    damaged(b"The last line missing", letter, 513, 540, b"");
-    damaged(b"A newline after the end", letter, 540, 540, b"\n");
-    damaged(b"A line after the end", letter, 540, 540, &letter[513..540]);
-    damaged(b"An empty text", letter, 0, 540, b"");
+    damaged(rt, b"The last newline missing", letter, 539, 540, b"");
+    damaged(rt, b"The last line missing", letter, 513, 540, b"");
+    damaged(rt, b"A newline after the end", letter, 540, 540, b"\n");
+    damaged(
+        rt,
+        b"A line after the end",
+        letter,
+        540,
+        540,
+        &letter[513..540],
+    );
+    damaged(rt, b"An empty text", letter, 0, 540, b"");
 }
 
-fn exchanged_lines(letter: &[u8]) {
+fn exchanged_lines(rt: &impl Print, letter: &[u8]) {
     if letter.len() < 540 {
         return;
     }
@@ -154,13 +170,13 @@ fn exchanged_lines(letter: &[u8]) {
     let c = append(&letter[108..135], &mut copy, b);
     append(&letter[162..], &mut copy, c);
     let mut image = [0u8; 160];
-    refused(b"Lines 5 and 6 exchanged", row(), &copy, &mut image);
+    refused(rt, b"Lines 5 and 6 exchanged", row(), &copy, &mut image);
 }
 
 // ---- letters of other rows, and other refusals
 
 // With units of 4 bytes every line is shorter; with two tiles drive 0 has four more frames, where this row goes on with drive 1.
-fn letters_of_others() {
+fn letters_of_others(rt: &impl Print) {
     let y = row();
     let image = [17u8; 320];
     let mut here = [0u8; 160];
@@ -169,6 +185,7 @@ fn letters_of_others() {
         return;
     }
     refused(
+        rt,
         b"The text of a row with units of 4 bytes",
         y,
         &small,
@@ -178,23 +195,31 @@ fn letters_of_others() {
     if pool_text::write_text(row_of(8, 2), &image, &mut large) != 0 {
         return;
     }
-    refused(b"The text of a row with two tiles", y, &large, &mut here);
+    refused(
+        rt,
+        b"The text of a row with two tiles",
+        y,
+        &large,
+        &mut here,
+    );
 }
 
-fn images_that_do_not_fit(letter: &[u8]) {
+fn images_that_do_not_fit(rt: &impl Print, letter: &[u8]) {
     let y = row();
     let mut short = [0u8; 159];
     let mut right = [0u8; 160];
     let mut long = [0u8; 161];
-    refused(b"An image one byte too short", y, letter, &mut short);
-    refused(b"An image one byte too long", y, letter, &mut long);
+    refused(rt, b"An image one byte too short", y, letter, &mut short);
+    refused(rt, b"An image one byte too long", y, letter, &mut long);
     refused(
+        rt,
         b"An image of no bytes and an empty text",
         y,
         b"",
         &mut short[..0],
     );
     refused(
+        rt,
         b"A row with units of 0 bytes",
         row_of(0, 1),
         letter,
@@ -202,25 +227,34 @@ fn images_that_do_not_fit(letter: &[u8]) {
     );
 }
 
-fn texts_that_do_not_fit(image: &[u8]) {
+fn texts_that_do_not_fit(rt: &impl Print, image: &[u8]) {
     let y = row();
     let mut short = [0u8; 539];
     let mut right = [0u8; 540];
     let mut long = [0u8; 541];
     unwritten(
+        rt,
         b"Written in a text one character too short",
         y,
         image,
         &mut short,
     );
     unwritten(
+        rt,
         b"Written in a text one character too long",
         y,
         image,
         &mut long,
     );
-    unwritten(b"Written from an image of 3 bytes", y, b"abc", &mut right);
     unwritten(
+        rt,
+        b"Written from an image of 3 bytes",
+        y,
+        b"abc",
+        &mut right,
+    );
+    unwritten(
+        rt,
         b"Written for a row with units of 0 bytes",
         row_of(0, 1),
         image,
@@ -238,30 +272,30 @@ fn stored(image: &mut [u8]) {
     put(empty, image, 33, b"a red case, its label torn");
 }
 
-fn there_and_back(image: &[u8], letter: &mut [u8]) {
+fn there_and_back(rt: &impl Print, image: &[u8], letter: &mut [u8]) {
     let refusal = pool_text::write_text(row(), image, letter);
-    text(b"The row is written as text: ");
-    answer(refusal);
-    text(b"\n");
-    text(letter);
+    text(rt, b"The row is written as text: ");
+    answer(rt, refusal);
+    text(rt, b"\n");
+    text(rt, letter);
     let mut back = [170u8; 160];
     let opened = pool_text::read_text(row(), letter, &mut back);
-    text(b"It is read back: ");
-    answer(opened.refusal);
-    text(b", ");
-    say_same(&back, image);
+    text(rt, b"It is read back: ");
+    answer(rt, opened.refusal);
+    text(rt, b", ");
+    say_same(rt, &back, image);
 }
 
-fn main() {
+fn main(rt: HostRuntime) {
     let mut image = [0u8; 160];
     let mut letter = [0u8; 540];
     stored(&mut image);
-    there_and_back(&image, &mut letter);
-    damaged_characters(&letter);
-    exchanged_lines(&letter);
-    damaged_lines(&letter);
-    damaged_ends(&letter);
-    letters_of_others();
-    images_that_do_not_fit(&letter);
-    texts_that_do_not_fit(&image);
+    there_and_back(&rt, &image, &mut letter);
+    damaged_characters(&rt, &letter);
+    exchanged_lines(&rt, &letter);
+    damaged_lines(&rt, &letter);
+    damaged_ends(&rt, &letter);
+    letters_of_others(&rt);
+    images_that_do_not_fit(&rt, &letter);
+    texts_that_do_not_fit(&rt, &image);
 }

@@ -110,73 +110,73 @@ fn part_for(image: &mut [u8], kind: u64) -> &mut [u8] {
     image
 }
 
-fn read_and_write(y: Layout, rec: Record, image: &mut [u8]) {
+fn read_and_write(rt: &impl Print, y: Layout, rec: Record, image: &mut [u8]) {
     let mut five = [170u8; 5];
     let refusal = pool_read::read(y, rec, image, 0, &mut five);
-    text(b"read");
-    number(refusal);
-    number(checksum(&five));
-    newline();
+    text(rt, b"read");
+    number(rt, refusal);
+    number(rt, checksum(&five));
+    newline(rt);
     let refused = pool_write::write(y, rec, image, 0, b"\xaa\xaa\xaa\xaa\xaa");
-    text(b"write");
-    number(refused);
-    newline();
+    text(rt, b"write");
+    number(rt, refused);
+    newline(rt);
 }
 
-fn fail_and_repair(y: Layout, rec: Record, image: &mut [u8]) {
+fn fail_and_repair(rt: &impl Print, y: Layout, rec: Record, image: &mut [u8]) {
     let failed = pool_fail::fail(y, rec, image, 0);
-    text(b"fail");
-    number(failed.refusal);
+    text(rt, b"fail");
+    number(rt, failed.refusal);
     let after = failed.rec;
-    calls::record(after);
-    newline();
+    calls::record(rt, after);
+    newline(rt);
     let repaired = pool_repair::repair(y, rec, image);
-    text(b"repair");
-    number(repaired.refusal);
+    text(rt, b"repair");
+    number(rt, repaired.refusal);
     let mended = repaired.rec;
-    calls::record(mended);
-    number(repaired.count);
-    newline();
+    calls::record(rt, mended);
+    number(rt, repaired.count);
+    newline(rt);
 }
 
-fn swap(y: Layout, rec: Record, image: &mut [u8]) {
+fn swap(rt: &impl Print, y: Layout, rec: Record, image: &mut [u8]) {
     let swapped = pool_swap::swap(y, rec, image, 0);
-    text(b"swap");
-    number(swapped.refusal);
+    text(rt, b"swap");
+    number(rt, swapped.refusal);
     let after = swapped.rec;
-    calls::record(after);
-    newline();
+    calls::record(rt, after);
+    newline(rt);
 }
 
-fn look(y: Layout, rec: Record, image: &[u8], scratch: &mut [u8]) {
+fn look(rt: &impl Print, y: Layout, rec: Record, image: &[u8], scratch: &mut [u8]) {
     calls::stain(scratch);
     let refusal = pool_look::prepare(y, rec, image, 0, 0, scratch);
-    text(b"look");
-    number(refusal);
-    number(checksum(scratch));
-    show(y, rec, image, scratch);
-    newline();
+    text(rt, b"look");
+    number(rt, refusal);
+    number(rt, checksum(scratch));
+    show(rt, y, rec, image, scratch);
+    newline(rt);
 }
 
 // The shown part: the refusal and its length.
-fn show<'a>(y: Layout, rec: Record, image: &'a [u8], scratch: &'a [u8]) {
+fn show<'a>(rt: &impl Print, y: Layout, rec: Record, image: &'a [u8], scratch: &'a [u8]) {
     let mut answer: u64 = 0;
     let shown = pool_look::show(y, rec, image, scratch, 0, 0, &mut answer);
     let length = shown.len() as u64;
-    number(answer);
-    number(length);
+    number(rt, answer);
+    number(rt, length);
 }
 
-pub fn event(run: Run, image: &mut [u8], buffer: &mut [u8], kind: u64) {
-    text(b"bad");
-    number(kind);
-    newline();
+pub fn event(rt: &impl Print, run: Run, image: &mut [u8], buffer: &mut [u8], kind: u64) {
+    text(rt, b"bad");
+    number(rt, kind);
+    newline(rt);
     let y = layout_for(run.y, kind);
     let rec = record_for(run, kind);
     let part = part_for(image, kind);
-    read_and_write(y, rec, part);
-    fail_and_repair(y, rec, part);
-    swap(y, rec, part);
-    look(y, rec, part, calls::front(buffer, run.y.u));
-    calls::panel(y, rec, part);
+    read_and_write(rt, y, rec, part);
+    fail_and_repair(rt, y, rec, part);
+    swap(rt, y, rec, part);
+    look(rt, y, rec, part, calls::front(buffer, run.y.u));
+    calls::panel(rt, y, rec, part);
 }

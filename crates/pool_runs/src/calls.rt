@@ -63,149 +63,156 @@ pub fn stain(buffer: &mut [u8]) {
 
 // ---- the lines between the events
 
-pub fn head(i: u64, y: Layout) {
-    text(b"run");
-    number(i);
-    number(y.n);
-    number(y.k);
-    number(y.p);
-    number(y.u);
-    number(y.t);
-    number(y.cookie);
-    number(y.edition);
-    newline();
+pub fn head(rt: &impl Print, i: u64, y: Layout) {
+    text(rt, b"run");
+    number(rt, i);
+    number(rt, y.n);
+    number(rt, y.k);
+    number(rt, y.p);
+    number(rt, y.u);
+    number(rt, y.t);
+    number(rt, y.cookie);
+    number(rt, y.edition);
+    newline(rt);
 }
 
-pub fn record(rec: Record) {
+pub fn record(rt: &impl Print, rec: Record) {
     let failed = rec.failed;
-    number(failed[0]);
-    number(failed[1]);
-    number(failed[2]);
-    number(rec.k);
-    number(rec.q);
-    number(rec.waiting);
+    number(rt, failed[0]);
+    number(rt, failed[1]);
+    number(rt, failed[2]);
+    number(rt, rec.k);
+    number(rt, rec.q);
+    number(rt, rec.waiting);
 }
 
-pub fn pool(run: Run, image: &[u8]) {
-    text(b"pool");
-    number(checksum(image));
+pub fn pool(rt: &impl Print, run: Run, image: &[u8]) {
+    text(rt, b"pool");
+    number(rt, checksum(image));
     let rec = run.rec;
-    record(rec);
-    newline();
+    record(rt, rec);
+    newline(rt);
 }
 
 // ---- the calls
 
-pub fn write(run: Run, image: &mut [u8], offset: u64, bytes: &[u8]) {
+pub fn write(rt: &impl Print, run: Run, image: &mut [u8], offset: u64, bytes: &[u8]) {
     let y = run.y;
     let rec = run.rec;
     let refusal = pool_write::write(y, rec, image, offset, bytes);
-    text(b"write");
-    number(offset);
-    number(bytes.len() as u64);
-    number(refusal);
-    newline();
+    text(rt, b"write");
+    number(rt, offset);
+    number(rt, bytes.len() as u64);
+    number(rt, refusal);
+    newline(rt);
 }
 
-pub fn read(run: Run, image: &[u8], offset: u64, out: &mut [u8]) {
+pub fn read(rt: &impl Print, run: Run, image: &[u8], offset: u64, out: &mut [u8]) {
     let y = run.y;
     let rec = run.rec;
     stain(out);
     let refusal = pool_read::read(y, rec, image, offset, out);
-    text(b"read");
-    number(offset);
-    number(out.len() as u64);
-    number(refusal);
-    number(checksum(out));
-    newline();
+    text(rt, b"read");
+    number(rt, offset);
+    number(rt, out.len() as u64);
+    number(rt, refusal);
+    number(rt, checksum(out));
+    newline(rt);
 }
 
-pub fn fail(run: Run, image: &[u8], target: u64) -> Run {
+pub fn fail(rt: &impl Print, run: Run, image: &[u8], target: u64) -> Run {
     let y = run.y;
     let rec = run.rec;
     let answer = pool_fail::fail(y, rec, image, target);
-    text(b"fail");
-    number(target);
-    number(answer.refusal);
-    newline();
+    text(rt, b"fail");
+    number(rt, target);
+    number(rt, answer.refusal);
+    newline(rt);
     let after = answer.rec;
     run.with(after)
 }
 
-pub fn repair(run: Run, image: &mut [u8]) -> Run {
+pub fn repair(rt: &impl Print, run: Run, image: &mut [u8]) -> Run {
     let y = run.y;
     let rec = run.rec;
     let answer = pool_repair::repair(y, rec, image);
-    text(b"repair");
-    number(answer.refusal);
-    number(answer.count);
-    newline();
+    text(rt, b"repair");
+    number(rt, answer.refusal);
+    number(rt, answer.count);
+    newline(rt);
     let after = answer.rec;
     run.with(after)
 }
 
-pub fn swap(run: Run, image: &mut [u8], target: u64) -> Run {
+pub fn swap(rt: &impl Print, run: Run, image: &mut [u8], target: u64) -> Run {
     let y = run.y;
     let rec = run.rec;
     let answer = pool_swap::swap(y, rec, image, target);
-    text(b"swap");
-    number(target);
-    number(answer.refusal);
-    newline();
+    text(rt, b"swap");
+    number(rt, target);
+    number(rt, answer.refusal);
+    newline(rt);
     let after = answer.rec;
     run.with(after)
 }
 
-pub fn look(run: Run, image: &[u8], group: u64, content: u64, scratch: &mut [u8]) {
+pub fn look(rt: &impl Print, run: Run, image: &[u8], group: u64, content: u64, scratch: &mut [u8]) {
     let y = run.y;
     let rec = run.rec;
     stain(scratch);
     let refusal = pool_look::prepare(y, rec, image, group, content, scratch);
-    text(b"look");
-    number(group);
-    number(content);
-    number(scratch.len() as u64);
-    number(refusal);
-    number(checksum(scratch));
-    show(run, image, group, content, scratch);
-    newline();
+    text(rt, b"look");
+    number(rt, group);
+    number(rt, content);
+    number(rt, scratch.len() as u64);
+    number(rt, refusal);
+    number(rt, checksum(scratch));
+    show(rt, run, image, group, content, scratch);
+    newline(rt);
 }
 
 // The shown part: the refusal, its length and its checksum.
-fn show<'a>(run: Run, image: &'a [u8], group: u64, content: u64, scratch: &'a [u8]) {
+fn show<'a>(
+    rt: &impl Print,
+    run: Run,
+    image: &'a [u8],
+    group: u64,
+    content: u64,
+    scratch: &'a [u8],
+) {
     let y = run.y;
     let rec = run.rec;
     let mut answer: u64 = 0;
     let shown = pool_look::show(y, rec, image, scratch, group, content, &mut answer);
     let length = shown.len() as u64;
     let sum = checksum(shown);
-    number(answer);
-    number(length);
-    number(sum);
+    number(rt, answer);
+    number(rt, length);
+    number(rt, sum);
 }
 
 // What the panel shows, and the audit's answer.
-pub fn panel(y: Layout, rec: Record, image: &[u8]) {
+pub fn panel(rt: &impl Print, y: Layout, rec: Record, image: &[u8]) {
     let shown = pool_count::panel(y, rec, image);
-    text(b"panel");
-    number(shown.refusal);
-    number(shown.waiting);
-    number(shown.failed);
-    number(shown.repaired);
-    newline();
+    text(rt, b"panel");
+    number(rt, shown.refusal);
+    number(rt, shown.waiting);
+    number(rt, shown.failed);
+    number(rt, shown.repaired);
+    newline(rt);
     let audited = pool_count::audit(y, rec, image);
-    text(b"audit");
-    number(audited);
-    newline();
+    text(rt, b"audit");
+    number(rt, audited);
+    newline(rt);
 }
 
 // ---- others
 
 // The run goes on with another count.
-pub fn count(run: Run, waiting: u64) -> Run {
-    text(b"count");
-    number(waiting);
-    newline();
+pub fn count(rt: &impl Print, run: Run, waiting: u64) -> Run {
+    text(rt, b"count");
+    number(rt, waiting);
+    newline(rt);
     let rec = run.rec;
     run.with(with_count(rec, waiting))
 }

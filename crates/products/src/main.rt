@@ -19,20 +19,20 @@ fn value(quotient: bool, x: u8, i: u8) -> u8 {
     field::mul(x, i)
 }
 
-fn print_byte(x: u8) {
+fn print_byte(rt: &impl Print, x: u8) {
     let both = [digit(x / 16), digit(x % 16)];
-    text(&both);
+    text(rt, &both);
 }
 
-fn label(quotient: bool) {
+fn label(rt: &impl Print, quotient: bool) {
     if quotient {
-        text(b"quotient ");
+        text(rt, b"quotient ");
     } else {
-        text(b"product ");
+        text(rt, b"product ");
     }
 }
 
-fn print_row(quotient: bool, x: u8) {
+fn print_row(rt: &impl Print, quotient: bool, x: u8) {
     let mut line = [0u8; 512];
     let mut i: usize = 0;
     while i < 256 {
@@ -41,38 +41,38 @@ fn print_row(quotient: bool, x: u8) {
         line[2 * i + 1] = digit(v % 16);
         i += 1;
     }
-    print_byte(x);
-    text(b" ");
-    text(&line);
-    newline();
+    print_byte(rt, x);
+    text(rt, b" ");
+    text(rt, &line);
+    newline(rt);
 }
 
-fn print_rows(quotient: bool) {
+fn print_rows(rt: &impl Print, quotient: bool) {
     let mut x: usize = 0;
     while x < 256 {
-        label(quotient);
-        print_row(quotient, x as u8);
+        label(rt, quotient);
+        print_row(rt, quotient, x as u8);
         x += 1;
     }
 }
 
-fn print_coefficients(i: usize)
+fn print_coefficients(rt: &impl Print, i: usize)
     requires { i < 3 }
 {
-    text(b"coefficients ");
-    decimal(i as u64);
+    text(rt, b"coefficients ");
+    decimal(rt, i as u64);
     let mut j: usize = 0;
     while j < 16 {
-        number(systems::coef(i, j) as u64);
+        number(rt, systems::coef(i, j) as u64);
         j += 1;
     }
-    newline();
+    newline(rt);
 }
 
-fn main() {
-    print_rows(false);
-    print_rows(true);
-    print_coefficients(0);
-    print_coefficients(1);
-    print_coefficients(2);
+fn main(rt: HostRuntime) {
+    print_rows(&rt, false);
+    print_rows(&rt, true);
+    print_coefficients(&rt, 0);
+    print_coefficients(&rt, 1);
+    print_coefficients(&rt, 2);
 }

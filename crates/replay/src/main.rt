@@ -5,8 +5,8 @@
 ghost use Rattle.std.specs.Prelude.{◌≡◌, ◌≤◌, length};
 
 use homes::Record;
-use libc::{STDIN_FILENO, STDOUT_FILENO};
 use numbers::Layout;
+use std::io::Read;
 
 // How far a replay is: the first line's layout once it is read, the record, how many bytes the image has, how many bytes of a line that crosses pieces
 // are held, and how many bytes of answers wait to be written.
@@ -53,13 +53,13 @@ fn fresh() -> Replay
 // ---- answers
 
 // Writes the answers that wait. Where standard output takes them no more, the run ends.
-fn flush(w: Replay, answers: &[u8]) -> Replay
+fn flush(rt: &impl Print, w: Replay, answers: &[u8]) -> Replay
     ensures { result.held ≡ w.held }
 {
     let mut next = w;
     let waiting = w.waiting;
     if waiting <= answers.len() {
-        if !io::write_all(STDOUT_FILENO, &answers[..waiting]) {
+        if rt.write_all(&answers[..waiting]).is_err() {
             next.ended = true;
         }
     }
@@ -68,11 +68,10 @@ fn flush(w: Replay, answers: &[u8]) -> Replay
 }
 
 // A number alone, which ends the run.
-fn end_with(w: Replay, number: u64) -> Replay
+fn end_with(rt: &impl Print, w: Replay, number: u64) -> Replay
     ensures { result.held ≡ w.held }
 {
-    io::print_decimal(STDOUT_FILENO, number);
-    io::write_all(STDOUT_FILENO, b"\n");
+    let _ = rt.println(number);
     let mut next = w;
     next.ended = true;
     next
@@ -81,12 +80,12 @@ fn end_with(w: Replay, number: u64) -> Replay
 // ---- lines
 
 // The first line: the layout, or the number that ends the run.
-fn begin(w: Replay, line: &[u8]) -> Replay
+fn begin(rt: &impl Print, w: Replay, line: &[u8]) -> Replay
     ensures { result.held ≡ w.held }
 {
     let first = replay_line::first(line);
     if first.refusal != 0 {
-        return end_with(w, first.refusal);
+        return end_with(rt, w, first.refusal);
     }
     let layout = first.layout;
     let rec = w.rec;
@@ -102,13 +101,13 @@ fn begin(w: Replay, line: &[u8]) -> Replay
 }
 
 // Writes what waits where half of the buffer is full: it has room for the longest answer twice.
-fn make_room(w: Replay, answers: &[u8]) -> Replay
+fn make_room(rt: &impl Print, w: Replay, answers: &[u8]) -> Replay
     ensures { result.held ≡ w.held }
 {
     if w.waiting <= 65560 {
         return w;
     }
-    flush(w, answers)
+    flush(rt, w, answers)
 }
 
 // Where the next answer goes: after this one, which lies within the buffer.
@@ -123,10 +122,10 @@ fn onward(waiting: usize, length: u64, most: usize) -> usize {
 }
 
 // One event, whose answer is laid after those that wait.
-fn play(w: Replay, image: &mut [u8], line: &[u8], answers: &mut [u8]) -> Replay
+fn play(rt: &impl Print, w: Replay, image: &mut [u8], line: &[u8], answers: &mut [u8]) -> Replay
     ensures { result.held ≡ w.held }
 {
-    let now = make_room(w, answers);
+    let now = make_room(rt, w, answers);
     let waiting = now.waiting;
     let size = now.size;
     if image.len() < size {
@@ -157,16 +156,22 @@ fn play(w: Replay, image: &mut [u8], line: &[u8], answers: &mut [u8]) -> Replay
 }
 
 // One whole line, or the last one, that the stream ends in the middle of.
-fn play_line(w: Replay, image: &mut [u8], line: &[u8], answers: &mut [u8]) -> Replay
+fn play_line(
+    rt: &impl Print,
+    w: Replay,
+    image: &mut [u8],
+    line: &[u8],
+    answers: &mut [u8],
+) -> Replay
     ensures { result.held ≡ w.held }
 {
     if w.ended {
         return w;
     }
     if w.begun {
-        return play(w, image, line, answers);
+        return play(rt, w, image, line, answers);
     }
-    begin(w, line)
+    begin(rt, w, line)
 }
 
 // Whether a line lies whole in its piece.
@@ -179,6 +184,7 @@ fn stands_alone(held: usize, whole: bool) -> bool {
 
 // The line that ends at `end`, or the piece of it that came. A whole one is played from where it stands; else it is kept.
 fn take(
+    rt: &impl Print,
     w: Replay,
     piece: &[u8],
     from: usize,
@@ -192,7 +198,7 @@ fn take(
 {
     let whole = line_cursor::is_whole(piece, from, end);
     if stands_alone(w.held, whole) {
-        return play_line(w, image, &piece[from..end], answers);
+        return play_line(rt, w, image, &piece[from..end], answers);
     }
     let held = line_cursor::keep(piece, from, end, line, w.held);
     let mut next = w;
@@ -201,13 +207,14 @@ fn take(
         return next;
     }
     next.held = 0;
-    play_line(next, image, &line[..held], answers)
+    play_line(rt, next, image, &line[..held], answers)
 }
 
 // ---- the stream
 
 // All lines that end in this piece, and what is left of it.
 fn take_all(
+    rt: &impl Print,
     w: Replay,
     piece: &[u8],
     image: &mut [u8],
@@ -221,14 +228,20 @@ fn take_all(
     let mut from = 0;
     while from < piece.len() {
         let end = line_cursor::line_end(piece, from);
-        next = take(next, piece, from, end, image, line, answers);
+        next = take(rt, next, piece, from, end, image, line, answers);
         from = end;
     }
     next
 }
 
 // A line that the stream ends in the middle of: without its newline it is malformed.
-fn play_rest(w: Replay, image: &mut [u8], line: &[u8], answers: &mut [u8]) -> Replay
+fn play_rest(
+    rt: &impl Print,
+    w: Replay,
+    image: &mut [u8],
+    line: &[u8],
+    answers: &mut [u8],
+) -> Replay
     requires { w.held ≤ length line.now }
     ensures { result.held ≡ w.held }
 {
@@ -236,28 +249,40 @@ fn play_rest(w: Replay, image: &mut [u8], line: &[u8], answers: &mut [u8]) -> Re
     if held == 0 {
         return w;
     }
-    play_line(w, image, &line[..held], answers)
+    play_line(rt, w, image, &line[..held], answers)
 }
 
 // The end of the stream. Without a first line there is nothing to run.
-fn finish(w: Replay, image: &mut [u8], line: &[u8], answers: &mut [u8]) -> Replay
+fn finish(rt: &impl Print, w: Replay, image: &mut [u8], line: &[u8], answers: &mut [u8]) -> Replay
     requires { w.held ≤ length line.now }
     ensures { result.held ≡ w.held }
 {
-    let rest = play_rest(w, image, line, answers);
-    let mut last = flush(rest, answers);
+    let rest = play_rest(rt, w, image, line, answers);
+    let mut last = flush(rt, rest, answers);
     if last.ended {
         return last;
     }
     if !last.begun {
-        return end_with(last, 13);
+        return end_with(rt, last, 13);
     }
     last.ended = true;
     last
 }
 
+// How many bytes the next piece has: none at the stream's end, and none where it cannot be read.
+fn next_piece(input: &mut impl Read, piece: &mut [u8]) -> usize
+    ensures { result ≤ length piece.new }
+{
+    match input.read(piece) {
+        Ok(n) => n,
+        Err(_) => 0,
+    }
+}
+
 // One piece of the stream, or its end.
 fn read_some(
+    rt: &impl Print,
+    input: &mut impl Read,
     w: Replay,
     piece: &mut [u8],
     image: &mut [u8],
@@ -267,34 +292,40 @@ fn read_some(
     requires { (length line.old ≡ 8301) × (w.held ≤ 8301) }
     ensures { result.held ≤ 8301 }
 {
-    let got = libc::read(STDIN_FILENO, piece);
-    if got <= 0 {
-        return finish(w, image, line, answers);
+    let n = next_piece(input, piece);
+    if n == 0 {
+        return finish(rt, w, image, line, answers);
     }
-    let n = io::count(got, piece);
-    let next = take_all(w, &piece[..n], image, line, answers);
-    flush(next, answers)
+    let next = take_all(rt, w, &piece[..n], image, line, answers);
+    flush(rt, next, answers)
 }
 
 // Nothing says that a stream ends: the turns are counted down from a number that no run uses up.
-fn run(piece: &mut [u8], image: &mut [u8], line: &mut [u8], answers: &mut [u8])
+fn run<R: Input + Print>(
+    rt: &R,
+    piece: &mut [u8],
+    image: &mut [u8],
+    line: &mut [u8],
+    answers: &mut [u8],
+)
     requires { length line.old ≡ 8301 }
 {
+    let mut input = rt.reader();
     let mut w = fresh();
     let mut turns = u64::MAX;
     while 0 < turns {
         if w.ended {
             return;
         }
-        w = read_some(w, piece, image, line, answers);
+        w = read_some(rt, &mut input, w, piece, image, line, answers);
         turns -= 1;
     }
 }
 
-fn main() {
-    let mut piece = io::large_buffer();
+fn main(rt: HostRuntime) {
+    let mut piece = [0u8; 65536];
     let mut image = [0u8; 32768];
     let mut line = [0u8; 8301];
     let mut answers = [0u8; 131120];
-    run(&mut piece, &mut image, &mut line, &mut answers);
+    run(&rt, &mut piece, &mut image, &mut line, &mut answers);
 }

@@ -73,12 +73,12 @@ pub fn get(r: Record, image: &[u8], offset: u64, out: &mut [u8]) -> u64 {
     pool_read::read(row(), r, image, offset, out)
 }
 
-pub fn lose(r: Record, image: &[u8], target: u64) -> Record {
-    text(b"Drive ");
-    decimal(target);
-    text(b" dies: ");
+pub fn lose(rt: &impl Print, r: Record, image: &[u8], target: u64) -> Record {
+    text(rt, b"Drive ");
+    decimal(rt, target);
+    text(rt, b" dies: ");
     let failed = pool_fail::fail(row(), r, image, target);
-    answer_line(failed.refusal);
+    answer_line(rt, failed.refusal);
     let rec = failed.rec;
     rec
 }
@@ -98,12 +98,12 @@ pub fn fill_drive(image: &mut [u8], from: usize, value: u8) {
     }
 }
 
-pub fn mend(r: Record, image: &mut [u8]) -> Record {
-    text(b"The row is repaired: ");
+pub fn mend(rt: &impl Print, r: Record, image: &mut [u8]) -> Record {
+    text(rt, b"The row is repaired: ");
     let repaired = pool_repair::repair(row(), r, image);
-    decimal(repaired.count);
-    text(b" units were missing, ");
-    answer_line(repaired.refusal);
+    decimal(rt, repaired.count);
+    text(rt, b" units were missing, ");
+    answer_line(rt, repaired.refusal);
     let rec = repaired.rec;
     rec
 }
@@ -111,36 +111,36 @@ pub fn mend(r: Record, image: &mut [u8]) -> Record {
 // ---- the service panel
 
 // How many units the panel says to wait.
-fn say_waiting(units: u64) {
+fn say_waiting(rt: &impl Print, units: u64) {
     if units == 0 {
-        text(b"no unit waits");
+        text(rt, b"no unit waits");
         return;
     }
     if units == 1 {
-        text(b"1 unit waits");
+        text(rt, b"1 unit waits");
         return;
     }
-    decimal(units);
-    text(b" units wait");
+    decimal(rt, units);
+    text(rt, b" units wait");
 }
 
-fn say_panel(r: Record, image: &[u8]) {
-    text(b"The service panel: ");
+fn say_panel(rt: &impl Print, r: Record, image: &[u8]) {
+    text(rt, b"The service panel: ");
     let shown = pool_count::panel(row(), r, image);
     if shown.refusal == 0 {
-        say_waiting(shown.waiting);
-        text(b" for repair, ");
-        decimal(shown.repaired);
-        text(b" of ");
-        decimal(shown.failed);
-        text(b" dead drives repaired, ");
+        say_waiting(rt, shown.waiting);
+        text(rt, b" for repair, ");
+        decimal(rt, shown.repaired);
+        text(rt, b" of ");
+        decimal(rt, shown.failed);
+        text(rt, b" dead drives repaired, ");
     }
-    answer_line(shown.refusal);
+    answer_line(rt, shown.refusal);
 }
 
 // What the panel shows, and what an audit of the count answers.
-pub fn inspect(r: Record, image: &[u8]) {
-    say_panel(r, image);
-    text(b"The count is audited: ");
-    answer_line(pool_count::audit(row(), r, image));
+pub fn inspect(rt: &impl Print, r: Record, image: &[u8]) {
+    say_panel(rt, r, image);
+    text(rt, b"The count is audited: ");
+    answer_line(rt, pool_count::audit(row(), r, image));
 }
