@@ -196,7 +196,10 @@ module _ (y : Layout) (R R' : Record) (alike : Alike R R') (room : ℕ) where
   pub move-number_unread : (len : ℕ) → move_refusal y R len room ≡ move_refusal y R' len room
   unfolding move_refusal
   move-number_unread len =
-      λ i. refusal_by ((validb y, 1) ∷ (eqb len (image_length y), 2) ∷ (eqb room (image_length y), 2) ∷ (good_same y R R' alike i, 3) ∷ (leb (alike.same_waiting i) (all_contents y), 3) ∷ [])
+      λ i.
+      refusal_by
+      ((validb y, 1) ∷ (eqb len (image_length y), 2) ∷ (eqb room (image_length y), 2) ∷ (good_same y R R' alike i, 3)
+      ∷ (leb (alike.same_waiting i) (all_contents y), 3) ∷ [])
 
   pub move_unread : (img : List ℕ) → move_image y R img room ≡ move_image y R' img room
   unfolding move_image shown_file file_byte
