@@ -1,7 +1,8 @@
 -- What a listing answers and leaves, said of the whole list.
 use Rattle.std.specs.Prelude.{◌≡◌, ℕ, zero, suc, ◌+◌, ◌-◌, ◌≤◌, ◌<◌, Bool, ltb, leb, get_or, set, take, drop, replicate}
 use Rattle.std.proofs.Math.Path.{refl, sym, ap, subst}
-use Rattle.std.proofs.Common.{◌∙◌, arith, length-append, length-drop, take-append-drop, length-take-le, take-suc, drop-cons, take_all, get_or-drop, get_or-append-add, get_or-take, ltb-true, ltb-false, lt-ltb, le-ltb}
+use Rattle.std.proofs.Common.{◌∙◌, arith, length-append, length-drop, take-append-drop, length-take-le, take-suc, drop-cons, take_all}
+use Rattle.std.proofs.Common.{get_or-drop, get_or-append-add, get_or-take, ltb-true, ltb-false, lt-ltb, le-ltb}
 use Rattle.std.proofs.Math.Bool.{true, false}
 use mathlib.Core.List.{List, [], ◌∷◌, ◌++◌, map, append_assoc, append-nil}
 use Rattle.std.proofs.Math.ListN.{length, length-map, get_or-map}
