@@ -1,5 +1,4 @@
 -- `survey::begin` meets its contract, by those of what it calls.
-use borrow.Author.Rules.{rules}
 use Rattle.survey.proofs.begin.Goals as goal
 
 pub returns : goal.returns

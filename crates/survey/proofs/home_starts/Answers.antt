@@ -1,9 +1,9 @@
 -- `survey::home_starts` meets its contract: each content passed has its home's first byte.
-use mathlib.Core.Path.{◌≡◌, refl, ◌∙◌}
-use Prim.Native.Nat.{ℕ, ◌-◌, ◌≤◌, ◌<◌}
+use mathlib.Core.Path.{refl, ◌∙◌}
+use Prim.Native.Nat.{◌≤◌, ◌<◌}
 use native.Mathlib.Omega.{arith}
 use borrow.Author.Count.{below_none}
-use lib.ListN.{length, get_or, length-set}
+use lib.ListN.{length-set}
 use Rattle.lists.specs.Tabulate.{fill_step}
 use Rattle.survey.proofs.home_starts.Goals as goal
 
@@ -16,10 +16,10 @@ loop-c-init c = (omega arith, refl, below_none _)
 
 pub loop-c-preserved : goal.loop-c-preserved
 loop-c-preserved c = let l = c.loop-c in (
-      omega (arith, turn c),
-      length-set l.at l.c _ ∙ l.invariant.1,
-      fill_step _ l.at l.c _ 0 (omega (arith, turn c, l.invariant.1)) refl l.invariant.2,
-    )
+  omega (arith, turn c),
+  length-set l.at l.c _ ∙ l.invariant.1,
+  fill_step _ l.at l.c _ 0 (omega (arith, turn c, l.invariant.1)) refl l.invariant.2,
+)
 
 pub returns : goal.returns
 returns c = λ i h. c.loop-c.invariant.2 i (omega arith)

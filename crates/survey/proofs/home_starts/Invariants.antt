@@ -1,9 +1,6 @@
-use mathlib.Core.Path.{◌≡◌, refl, ◌∙◌}
+use mathlib.Core.Path.{◌≡◌}
 use Prim.Native.Nat.{ℕ, ◌-◌, ◌≤◌, ◌<◌}
-use native.Mathlib.Omega.{arith}
-use borrow.Author.Count.{below_none}
-use lib.ListN.{length, get_or, length-set}
-use Rattle.lists.specs.Tabulate.{fill_step}
+use lib.ListN.{length, get_or}
 use Rattle.survey.proofs.home_starts.Given as goal
 
 abbrev pub invariant-loop-c : goal.invariant-loop-c

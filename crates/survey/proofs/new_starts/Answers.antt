@@ -3,7 +3,6 @@
 use native.Mathlib.Omega.{arith}
 use Rattle.homes.proofs.StandingLaws.{standing_of}
 use Rattle.survey.specs.Steps.{homes_fit, starts_of}
-use borrow.Author.Rules.{rules}
 use Rattle.survey.proofs.new_starts.Goals as goal
 
 pub homes_of-homes-requires : goal.homes_of-homes-requires

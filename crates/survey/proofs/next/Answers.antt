@@ -2,7 +2,6 @@
 -- the plan before it has worked out.
 use mathlib.Core.Path.{refl, ◌∙◌}
 use Rattle.survey.specs.Steps.{solvable_here, surveyed_of, whole_stands, mended_stands}
-use borrow.Author.Rules.{rules}
 use Rattle.survey.proofs.next.Goals as goal
 
 pub returns-then-r-eq0 : goal.returns-then-r-eq0

@@ -1,17 +1,15 @@
 -- `survey::own_missing` meets its contract. The loop keeps: the flags of the units passed, and the cell of the next.
-use mathlib.Core.Path.{◌≡◌, refl, ap, ◌∙◌, subst⁻¹}
+use mathlib.Core.Path.{refl, ap, ◌∙◌, subst⁻¹}
 use mathlib.Core.Bool.{false}
-use Prim.Native.Nat.{ℕ, ◌-◌, ◌≤◌, ◌<◌}
+use Prim.Native.Nat.{◌≤◌, ◌<◌}
 use native.Mathlib.Omega.{arith}
 use borrow.Author.Count.{below_none}
-use lib.ListN.{length, get_or, length-set}
-use Rattle.lists.specs.Tabulate.{at, fill_step}
+use lib.ListN.{length-set}
+use Rattle.lists.specs.Tabulate.{fill_step}
 use Rattle.numbers.specs.Layouts.{contents, frames}
 use Rattle.place.specs.declared.Cell.{Cell}
 use Rattle.place.specs.declared.Place.{Place}
-use Rattle.place.specs.Places.{cell_of}
 use Rattle.place.specs.PlaceLaws.{cell_in, place_at}
-use Rattle.homes.specs.Listed.{listed}
 use Rattle.homes.specs.Records.{failed}
 use Rattle.homes.specs.Missing.{target_at}
 use Rattle.survey.proofs.own_missing.Goals as goal

@@ -1,17 +1,10 @@
-use mathlib.Core.Path.{◌≡◌, refl, ap, ◌∙◌, subst⁻¹}
+use mathlib.Core.Path.{◌≡◌}
 use mathlib.Core.Bool.{false}
 use Prim.Native.Nat.{ℕ, ◌-◌, ◌≤◌, ◌<◌}
-use native.Mathlib.Omega.{arith}
-use borrow.Author.Count.{below_none}
-use lib.ListN.{length, get_or, length-set}
-use Rattle.lists.specs.Tabulate.{at, fill_step}
-use Rattle.numbers.specs.Layouts.{contents, frames}
-use Rattle.place.specs.declared.Cell.{Cell}
-use Rattle.place.specs.declared.Place.{Place}
+use lib.ListN.{length, get_or}
+use Rattle.lists.specs.Tabulate.{at}
 use Rattle.place.specs.Places.{cell_of}
-use Rattle.place.specs.PlaceLaws.{cell_in, place_at}
 use Rattle.homes.specs.Listed.{listed}
-use Rattle.homes.specs.Records.{failed}
 use Rattle.homes.specs.Missing.{target_at}
 use Rattle.survey.proofs.own_missing.Given as goal
 

@@ -1,7 +1,6 @@
 -- `survey::shift_of` meets its contract: homes under either list are units of the group.
 use Rattle.homes.proofs.StandingLaws.{standing_of}
 use Rattle.survey.specs.Steps.{homes_fit, starts_of}
-use borrow.Author.Rules.{rules}
 use Rattle.survey.proofs.shift_of.Goals as goal
 
 pub homes_of-old-requires : goal.homes_of-old-requires

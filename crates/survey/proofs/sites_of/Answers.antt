@@ -1,15 +1,15 @@
 -- `survey::sites_of` meets its contract. The loop keeps: targets and first bytes of the units passed, and the cell of the next.
 use mathlib.Core.Path.{◌≡◌, refl, ap, ◌∙◌, subst⁻¹}
-use Prim.Native.Nat.{ℕ, ◌-◌, ◌≤◌, ◌<◌}
+use Prim.Native.Nat.{◌≤◌, ◌<◌}
 use native.Mathlib.Omega.{arith}
 use borrow.Author.Count.{below_none}
-use lib.ListN.{length, get_or, length-set}
-use Rattle.lists.specs.Tabulate.{at, fill_step}
+use lib.ListN.{length-set}
+use Rattle.lists.specs.Tabulate.{fill_step}
 use Rattle.numbers.specs.Layouts.{frames}
 use Rattle.place.specs.declared.Cell.{Cell}
 use Rattle.place.specs.declared.Place.{Place}
 use Rattle.place.specs.Bytes.{spot_of, spot}
-use Rattle.place.specs.Places.{cell_of, place_of}
+use Rattle.place.specs.Places.{place_of}
 use Rattle.place.specs.PlaceLaws.{cell_in, place_at, place_in}
 use Rattle.homes.specs.Missing.{target_at}
 use Rattle.homes.specs.StandingLaws.{few_units, unit_in_lem, target_lt}

@@ -1,17 +1,10 @@
-use mathlib.Core.Path.{◌≡◌, refl, ap, ◌∙◌, subst⁻¹}
+use mathlib.Core.Path.{◌≡◌}
 use Prim.Native.Nat.{ℕ, ◌-◌, ◌≤◌, ◌<◌}
-use native.Mathlib.Omega.{arith}
-use borrow.Author.Count.{below_none}
-use lib.ListN.{length, get_or, length-set}
-use Rattle.lists.specs.Tabulate.{at, fill_step}
-use Rattle.numbers.specs.Layouts.{frames}
-use Rattle.place.specs.declared.Cell.{Cell}
-use Rattle.place.specs.declared.Place.{Place}
-use Rattle.place.specs.Bytes.{spot_of, spot}
-use Rattle.place.specs.Places.{cell_of, place_of}
-use Rattle.place.specs.PlaceLaws.{cell_in, place_at, place_in}
+use lib.ListN.{length, get_or}
+use Rattle.lists.specs.Tabulate.{at}
+use Rattle.place.specs.Bytes.{spot}
+use Rattle.place.specs.Places.{cell_of}
 use Rattle.homes.specs.Missing.{target_at}
-use Rattle.homes.specs.StandingLaws.{few_units, unit_in_lem, target_lt}
 use Rattle.survey.proofs.sites_of.Given as goal
 
 abbrev pub invariant-loop-u : goal.invariant-loop-u

@@ -7,7 +7,6 @@ use Rattle.homes.specs.declared.Record.{Record}
 use Rattle.homes.specs.Records.{Good}
 use Rattle.homes.proofs.StandingLaws.{standing_of, units_of, missing_are}
 use Rattle.survey.specs.Steps.{homes_fit, starts_of, own_stands}
-use borrow.Author.Rules.{rules}
 use Rattle.survey.proofs.stand_of.Goals as goal
 
 few : (y : Layout) (r : Record) → Good y r → r.q ≤ y.k

@@ -1,7 +1,6 @@
 -- `survey::tile_to` meets its contract: the tile in hand is the one asked for, or the permutation is worked out.
 use mathlib.Core.Path.{ap, ◌∙◌}
 use Rattle.place.specs.Places.{tile_permutation}
-use borrow.Author.Rules.{rules}
 use Rattle.survey.proofs.tile_to.Goals as goal
 
 pub returns-then-last-tile : goal.returns-then-last-tile

@@ -1,9 +1,9 @@
 -- `survey::unit_starts` meets its contract. The loop keeps: where the units passed begin, and the cell of the next.
 use mathlib.Core.Path.{◌≡◌, refl, ap, ◌∙◌, subst⁻¹}
-use Prim.Native.Nat.{ℕ, ◌+◌, ◌-◌, ◌≤◌, ◌<◌}
+use Prim.Native.Nat.{◌+◌, ◌<◌}
 use native.Mathlib.Omega.{arith}
 use borrow.Author.Count.{below_none}
-use lib.ListN.{length, get_or, length-set}
+use lib.ListN.{length-set}
 use Rattle.lists.specs.Tabulate.{fill_step}
 use Rattle.numbers.specs.Layouts.{width, frames}
 use Rattle.place.specs.declared.Cell.{Cell}
