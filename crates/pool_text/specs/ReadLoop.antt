@@ -10,7 +10,7 @@ use borrow.Author.Tests.{eq-eqb, ne_eqb, lt-leb}
 use Rattle.lists.specs.Pick.{pick_true, pick-false, both_true, both_hold, clash, not-both_ways, equal_or_not}
 use Rattle.lists.specs.Search.{all, all-at, all_true, lowest, lowest-at, lowest-none, any_false}
 use Rattle.lists.specs.Span.{Span, span_none, span_join, span_to}
-use Rattle.lists.specs.Tabulate.{at, tabulated}
+use Rattle.lists.specs.Tabulate.{tabulated}
 use Rattle.numbers.specs.declared.Layout.{Layout}
 use Rattle.numbers.specs.Layouts.{image_length}
 use Rattle.hex_text.specs.Line.{line_right, byte_at}
