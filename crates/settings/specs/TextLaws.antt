@@ -1,5 +1,5 @@
 -- Texts of settings as lists of lines: a line added to a text without malformed lines, and which line is the first malformed one.
-use Rattle.std.specs.Prelude.{◌≡◌, refl, true, false, List, [], ◌∷◌, ◌++◌, ℕ, zero, suc, ◌-◌, ◌<◌, length, get_or}
+use Rattle.std.specs.Prelude.{◌≡◌, refl, true, false, List, [], ◌∷◌, ◌++◌, ℕ, zero, suc, ◌<◌, length, get_or}
 use Rattle.std.proofs.Common.{sym, ap, ◌∙◌, subst, ⊎_elim, append-nil, append_assoc, arith}
 use Rattle.lists.specs.Pick.{either_way}
 use Rattle.line_cursor.specs.Lines.{lines_of, joined}
