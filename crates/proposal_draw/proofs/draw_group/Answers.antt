@@ -1,0 +1,74 @@
+-- `proposal_draw::draw_group` meets its contract. The loop keeps: the entries of the contents passed are written (`GroupTo`).
+use mathlib.Core.Path.{◌≡◌, sym, ◌∙◌}
+use mathlib.Core.Bool.{true}
+use Prim.Native.Nat.{◌+◌, ◌≤◌}
+use native.Mathlib.Omega.{arith}
+use lib.ListN.{length}
+use Rattle.homes.specs.declared.Record.{Record}
+use Rattle.proposal.specs.Plans.{entry_size}
+use Rattle.proposal_draw.specs.Drawn.{GroupAt, GroupTo, enough_there, group_begin, content-present, content_room, content-missing, group_end}
+use Rattle.proposal_draw.proofs.draw_group.Goals as goal
+use Rattle.proposal_draw.proofs.draw_group.Goals.{then-missing-c, else-missing-c}
+use Rattle.std.proofs.Common.{List, ℕ, Bool, ◌*◌, ◌<◌}
+use Rattle.numbers.specs.declared.Layout.{Layout}
+use Rattle.numbers.specs.declared.Shape.{Shape}
+use Rattle.numbers.specs.Layouts.{contents}
+use Rattle.homes.specs.Records.{Good}
+use Rattle.homes.specs.Standing.{InTile}
+use Rattle.survey.specs.declared.Stand.{Stand}
+use Rattle.survey.specs.Starts.{Stands}
+use Rattle.parity.specs.Matrix.{flag}
+use Rattle.proposal.specs.Drawing.{drawn_length}
+use Rattle.proposal_draw.specs.Drawn.{numbers_below}
+
+-- ---- the group in hand
+
+here : (y : Layout) (s : Shape) (r : Record) (to : List ℕ) (g at : ℕ) (out : List ℕ) (x : Stand)
+    → Good y r × InTile y s to g × (drawn_length y r ≤ length out) × (at ≡ numbers_below y r (contents y * g)) → Stands y r g x → GroupAt y r g x.missing at out
+here y s r to g at out x p h =
+    record { valid = p.1.valid; good = p.0; group = p.1.group; flags_are = h.flags; room = p.2; begins = p.3 }
+
+-- a content that is named is missing, so there is room for its entry
+room : (y : Layout) (r : Record) (g : ℕ) (flags : List Bool) (at : ℕ) (old : List ℕ) (k : GroupAt y r g flags at old) (c next : ℕ) (out : List ℕ)
+    → GroupTo y r g at old c next out → c < contents y → flag flags c ≡ true → next + entry_size y ≤ length out
+room y r g flags at old k c next out s h t = content_room y r g flags at old k c next out s h (sym (k.flags_are c h) ∙ t)
+
+pub stand_of-stand-requires : goal.stand_of-stand-requires
+stand_of-stand-requires c = (c.requires.0, c.requires.1)
+
+pub overflow_add-m : goal.overflow_add-m
+overflow_add-m c = let v = c.requires.1.valid in omega (arith, v.few_data, v.few_parity)
+
+pub overflow_add-size : goal.overflow_add-size
+overflow_add-size c = omega (arith, c.requires.1.valid.few_data)
+
+pub loop-c-init : goal.loop-c-init
+loop-c-init c = λ R k. group_begin _ _ _ _ _ _ k
+
+pub bounds-missing-c : goal.bounds-missing-c
+bounds-missing-c c = let v = c.requires.1.valid in omega (arith, c.loop-c-test.true, v.few_data, v.few_parity)
+
+pub draw_entry-requires : goal.draw_entry-requires
+draw_entry-requires c = let k = here _ _ _ _ _ _ _ _ c.requires c.stand_of-stand.ensures in (k.valid, enough_there _ _ _ _ _ _ k, room _ _ _ _ _ _ k _ _ _ (c.loop-c.invariant _ k) c.loop-c-test.true c.if-missing-c.true)
+
+pub overflow_add-next : goal.overflow_add-next
+overflow_add-next c = let k = here _ _ _ _ _ _ _ _ c.requires c.stand_of-stand.ensures in omega (arith, room _ _ _ _ _ _ k _ _ _ (c.loop-c.invariant _ k) c.loop-c-test.true c.if-missing-c.true, (c.loop-c.invariant _ k).written.len)
+
+pub overflow_add-c : goal.overflow_add-c
+overflow_add-c c = let v = c.requires.1.valid in omega (arith, c.loop-c-test.true, v.few_data, v.few_parity)
+
+pub loop-c-smaller : goal.loop-c-smaller
+loop-c-smaller c = omega (arith, c.loop-c-test.true)
+
+pub loop-c-preserved : goal.loop-c-preserved
+loop-c-preserved c = λ R k.
+    elim c.if-missing-c.branch [
+      | then-missing-c w ↦ content-missing _ _ _ _ _ _ k _ _ _ (c.loop-c.invariant R k) c.loop-c-test.true w.if-missing-c.true _ _ _ w.draw_entry.ensures w.out-is w.next-is
+      | else-missing-c w ↦ content-present _ _ _ _ _ _ k _ _ _ (c.loop-c.invariant R k) c.loop-c-test.true w.if-missing-c.false _ _ w.out-is w.next-is
+    ]
+
+pub shape_of-out : goal.shape_of-out
+shape_of-out c = (c.loop-c.invariant _ (here _ _ _ _ _ _ _ _ c.requires c.stand_of-stand.ensures)).written.len
+
+pub returns : goal.returns
+returns c = group_end _ _ _ _ _ _ (here _ _ _ _ _ _ _ _ c.requires c.stand_of-stand.ensures) _ _ _ (c.loop-c.invariant _ (here _ _ _ _ _ _ _ _ c.requires c.stand_of-stand.ensures)) c.loop-c-test.false
