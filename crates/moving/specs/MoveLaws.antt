@@ -20,8 +20,10 @@ use Rattle.pool.specs.Refusals.{range_tests, range_refusal}
 use Rattle.pool.specs.Reading.{read_out}
 use Rattle.pool.specs.Asked.{Sound, sound-passes, range_asked}
 use Rattle.pool.specs.Holds.{Holds, file_shown, content_rebuilds, home-spot-lt}
-use Rattle.pool.specs.Blind.{Agree, content_blind}
-use Rattle.pool.specs.Unread.{Alike, grant_same, bytes_unread, good_same}
+use Rattle.pool.specs.Blind.{Agree}
+use Rattle.pool.proofs.BlindLaws.{content_blind}
+use Rattle.pool.specs.Unread.{Alike, grant_same}
+use Rattle.pool.proofs.UnreadLaws.{bytes_unread, good_same}
 use Rattle.moving.specs.Fresh.{unfailed, fresh_image, Clean}
 use Rattle.moving.specs.Moving.{shown_file, move_tests, move_refusal, move_image}
 use Rattle.moving.specs.FreshLaws.{unfailed-sound, shown-length, shown-at, fresh_length, fresh_shown, fresh_holds, fresh_file, fresh_clean, clean_fresh}

@@ -22,24 +22,6 @@ use Rattle.pool.specs.Counting.{missing_pairs, missing_units, TrueCount, home_on
 
 -- ---- a failure
 
-module _ (y : Layout) (R : Record) (t : ℕ) (room : R.k < length R.failed) (mended : R.q ≤ R.k) (new : failed R t ≡ false) where
-  -- a content is missing afterwards where it was, or where its home was on t, and never both
-  pub missing-grown : (g c : ℕ) → bit (missing y (grown y R t) g c) ≡ bit (missing y R g c) + bit (home_on y R t g c)
-  unfolding missing
-  missing-grown g c =
-      ap (λ (u : ℕ). bit (listed (entry (grown y R t)) (suc R.k) (target_at y g u))) (home-grown y R t R.q g c mended)
-      ∙ listed_more (entry R) (entry (grown y R t)) R.k t (entry_same y R t) (get_or-set_same R.failed R.k t 0 room) new (target_at y g (home y R R.q g c))
-
-  pub fail_raises_below : (n : ℕ) → missing_pairs y (grown y R t) n ≡ missing_pairs y R n + sum (λ g. count (home_on y R t g) (contents y)) n
-  fail_raises_below n =
-      sum-two _ _ _ n
-      (λ g l. count-two (missing y (grown y R t) g) (missing y R g) (home_on y R t g) (contents y) (λ c b. missing-grown g c))
-
-  -- "Fail raises it by the contents whose home under the first q entries was on that target"
-  pub fail_raises : missing_units y (grown y R t) ≡ missing_units y R + on_target y R t
-  unfolding missing_units on_target
-  fail_raises = fail_raises_below (all_groups y)
-
 -- ---- all that failed are repaired: nothing is missing
 
 pub repaired_clear : (y : Layout) (R : Record) → Valid y → Good y R → R.q ≡ R.k → missing_units y R ≡ 0
@@ -67,16 +49,6 @@ unfolding on_target
 on_target_at_most y R t = sum-le _ (contents y) (all_groups y) (λ g l. count-le (home_on y R t g) (contents y))
 
 -- ---- the calls keep a true count
-
-pub fail_keeps_true : (y : Layout) (R : Record) (len target : ℕ) → length R.failed ≡ 3 → TrueCount y R → TrueCount y (fail_record y R len target)
-unfolding fail_record
-fail_keeps_true y R len target room e =
-    grant-either (fail_refusal y R len target) _ R (λ (S : Record). TrueCount y S)
-    (λ z.
-    let a = fail_asked y R len target z in
-    ap (λ (n : ℕ). n + on_target y R target) e
-    ∙ sym (fail_raises y R target (omega (arith, a.room, a.sound.valid.few_parity)) a.sound.good.mended a.new))
-    (λ z. e)
 
 pub repair_keeps_true : (y : Layout) (R : Record) (len : ℕ) → TrueCount y R → TrueCount y (repair_record y R len)
 unfolding repair_record

@@ -18,7 +18,6 @@ pub mod Rounds
 pub mod Holds
 pub mod WriteHolds
 pub mod FailHolds
-pub mod RepairHolds
 pub mod ScribbleHolds
 pub mod LookHolds
 pub mod Changes
@@ -29,4 +28,3 @@ pub mod Cuts
 pub mod Unread
 pub mod CountLaws
 pub mod FrameCount
-pub mod TargetCounts

@@ -18,7 +18,7 @@ use Rattle.pool.specs.Refusals.{otherwise, raised, fail_refusal}
 use Rattle.pool.specs.Failing.{grown, fail_record}
 use Rattle.pool.specs.Asked.{FailAsked}
 use Rattle.pool.specs.Calls.{Fails}
-use Rattle.pool.specs.Otherwise.{fail_by_steps}
+use Rattle.pool.proofs.OtherwiseLaws.{fail_by_steps}
 use Rattle.tally.specs.Walking.{Walking}
 
 module _ (y : Layout) (R : Record) (img : List ℕ) (target n : ℕ) (e : n ≡ otherwise y R (length img) target) where

@@ -13,12 +13,15 @@ use Rattle.lists.specs.Refusal.{grant, grant-either}
 use Rattle.numbers.specs.declared.Layout.{Layout}
 use Rattle.homes.specs.declared.Record.{Record}
 use Rattle.pool.specs.Writing.{write_image}
-use Rattle.pool.specs.WriteHolds.{write_length}
-use Rattle.pool.specs.Changes.{Written, write_changes}
-use Rattle.pool.specs.Blind.{Agree, write_agree}
+use Rattle.pool.proofs.WriteHoldsLaws.{write_length}
+use Rattle.pool.specs.Changes.{Written}
+use Rattle.pool.proofs.ChangesLaws.{write_changes}
+use Rattle.pool.specs.Blind.{Agree}
+use Rattle.pool.proofs.BlindLaws.{write_agree}
 use Rattle.pool.specs.Elsewhere.{AgreeElsewhere, unseen}
-use Rattle.pool.specs.ElsewhereKept.{write_elsewhere, write_spares_unseen}
-use Rattle.pool.specs.Unread.{Alike, tests_same, write_unread}
+use Rattle.pool.proofs.ElsewhereKeptLaws.{write_elsewhere, write_spares_unseen}
+use Rattle.pool.specs.Unread.{Alike}
+use Rattle.pool.proofs.UnreadLaws.{tests_same, write_unread}
 use Rattle.pool_list.specs.Ranges.{range_offset, range_size, range_bytes, inside_alone, list_tests, list_refusal, list_range, after_ranges, list_image}
 use Rattle.pool_list.specs.Steps.{bytes_length}
 

@@ -14,7 +14,7 @@ use Rattle.numbers.specs.declared.Layout.{Layout}
 use Rattle.homes.specs.declared.Record.{Record}
 use Rattle.pool.specs.Files.{written}
 use Rattle.pool.specs.Holds.{Holds}
-use Rattle.pool.specs.WriteHolds.{write_right}
+use Rattle.pool.proofs.WriteHoldsLaws.{write_right}
 use Rattle.pool_list.specs.Ranges.{range_offset, range_size, range_bytes, list_refusal, after_ranges, list_image, laid_ranges}
 use Rattle.pool_list.specs.Asked.{list_asked}
 use Rattle.pool_list.specs.Steps.{bytes_length, each_accepted}

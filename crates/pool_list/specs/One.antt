@@ -15,8 +15,9 @@ use Rattle.homes.specs.declared.Record.{Record}
 use Rattle.pool.specs.Refusals.{range_tests, range_refusal, repair_refusal}
 use Rattle.pool.specs.Writing.{write_image}
 use Rattle.pool.specs.Asked.{pool_first}
-use Rattle.pool.specs.WriteHolds.{write_refused, write_accepted}
-use Rattle.pool.specs.Changes.{written_none}
+use Rattle.pool.specs.WriteHolds.{write_refused}
+use Rattle.pool.proofs.WriteHoldsLaws.{write_accepted}
+use Rattle.pool.proofs.ChangesLaws.{written_none}
 use Rattle.checks.specs.Tests.{range_by}
 use Rattle.pool_list.specs.Ranges.{range_offset, range_size, range_bytes, inside_alone, list_tests, list_refusal, list_range, after_ranges, list_image}
 use Rattle.pool_list.specs.Asked.{inside_is, ListAsked, list_asked}

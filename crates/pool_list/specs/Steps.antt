@@ -12,7 +12,7 @@ use Rattle.numbers.specs.Layouts.{capacity}
 use Rattle.homes.specs.declared.Record.{Record}
 use Rattle.pool.specs.Refusals.{range_refusal}
 use Rattle.pool.specs.Writing.{written_image}
-use Rattle.pool.specs.WriteHolds.{write_length, write_accepted}
+use Rattle.pool.proofs.WriteHoldsLaws.{write_length, write_accepted}
 use Rattle.pool_list.specs.Ranges.{range_offset, range_size, range_bytes, list_refusal, after_ranges, list_image}
 use Rattle.pool_list.specs.Asked.{inside_fits, ListAsked, alone_by}
 

@@ -21,7 +21,8 @@ use Rattle.pool.specs.Refusals.{look_refusal}
 use Rattle.pool.specs.Looking.{look_shown}
 use Rattle.pool.specs.Calls.{Shows}
 use Rattle.pool.specs.Asked.{LookAsked, look_asked}
-use Rattle.pool.specs.Unread.{Alike, look_unread, homes_unread, lost_unread}
+use Rattle.pool.specs.Unread.{Alike}
+use Rattle.pool.proofs.UnreadLaws.{look_unread, homes_unread, lost_unread}
 use Rattle.plan.specs.declared.Plan.{Plan}
 use Rattle.plan.specs.Plans.{at_of, miss_of, Fits, held}
 use Rattle.runs.specs.Run.{run_set, length-run_set, run_set_in}

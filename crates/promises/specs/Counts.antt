@@ -26,10 +26,11 @@ use Rattle.pool.specs.Repairing.{mended, repair_image, repair_record, repair_cou
 use Rattle.pool.specs.Looking.{look_scratch, look_shown}
 use Rattle.pool.specs.Calls.{Fails, Repairs}
 use Rattle.pool.specs.Asked.{otherwise-asked}
-use Rattle.pool.specs.Otherwise.{fail_by_steps}
+use Rattle.pool.proofs.OtherwiseLaws.{fail_by_steps}
 use Rattle.pool.specs.Elsewhere.{is_home}
 use Rattle.pool.specs.CountLaws as C
-use Rattle.pool.specs.FrameCount.{on_target_by_frames}
+use Rattle.pool.proofs.CountLaws as CProofs
+use Rattle.pool.proofs.FrameCountLaws.{on_target_by_frames}
 use Rattle.pool_list.specs.Ranges.{range_offset, range_bytes, list_refusal, list_range, after_ranges, list_image}
 use Rattle.pool_look.specs.Shown.{shown_at}
 use Rattle.hex_text.specs.Hex.{hex_of}
@@ -51,7 +52,7 @@ module _ (y : Layout) (R : Record) (img : List ℕ) where
   -- "From a true count every call keeps it true": accepted or refused. Of the other calls a repair by a plan (`RepairPlan`)
   -- and a swap (`SwapDrive`) hand a record back
   pub fail_keeps_true : length R.failed ≡ 3 → TrueCount y R → (target n : ℕ) (R' : Record) → Fails y R img target n R' → TrueCount y R'
-  fail_keeps_true three true target n R' p = subst⁻¹ (TrueCount y) p.rec (C.fail_keeps_true y R (length img) target three true)
+  fail_keeps_true three true target n R' p = subst⁻¹ (TrueCount y) p.rec (CProofs.fail_keeps_true y R (length img) target three true)
 
   pub repair_keeps_true : TrueCount y R → (n m : ℕ) (R' : Record) (img' : List ℕ) → Repairs y R img n m R' img' → TrueCount y R'
   repair_keeps_true true n m R' img' p = subst⁻¹ (TrueCount y) p.rec (C.repair_keeps_true y R (length img) true)
@@ -68,7 +69,7 @@ true-within y R true = omega (arith, true, C.at_most y R)
 pub true_fails : (y : Layout) (R : Record) (len target : ℕ) → length R.failed ≡ 3 → TrueCount y R → otherwise y R len target ≡ 0 → fail_refusal y R len target ≡ 0
 true_fails y R len target three true z =
     let a = otherwise-asked y R len target z in
-    let more = C.fail_raises y R target (omega (arith, a.room, a.sound.valid.few_parity, three)) a.sound.good.mended a.new in
+    let more = CProofs.fail_raises y R target (omega (arith, a.room, a.sound.valid.few_parity, three)) a.sound.good.mended a.new in
     let up : raised y R target ≤ all_contents y = omega (arith, true, more, C.at_most y (grown y R target)) in
     fail_by_steps y R len target ∙ or_else_right _ _ z ∙ ap (λ (b : Bool). unless b 3) (le-leb (raised y R target) (all_contents y) up)
 

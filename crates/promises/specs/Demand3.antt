@@ -17,9 +17,10 @@ use Rattle.pool.specs.Looking.{look_scratch, look_shown}
 use Rattle.pool.specs.Files.{part, encoded}
 use Rattle.pool.specs.Asked.{sound-passes}
 use Rattle.pool.specs.Holds.{read_right}
-use Rattle.pool.specs.RepairHolds.{all_repaired}
+use Rattle.pool.proofs.RepairHolds.{all_repaired}
 use Rattle.pool.specs.LookHolds.{look_right}
-use Rattle.pool.specs.Changes.{Written, Mended, write_changes, repair_changes}
+use Rattle.pool.specs.Changes.{Written, Mended}
+use Rattle.pool.proofs.ChangesLaws.{write_changes, repair_changes}
 use Rattle.proposal.specs.Running.{plan_refusal, plan_image, plan_record}
 use Rattle.proposal.specs.RunningLaws.{plan_image_lem, plan_record_lem}
 use Rattle.proposal.specs.PlanHolds.{plan_changes}

@@ -43,8 +43,8 @@ use Rattle.pool.specs.Looking.{look_scratch, look_shown}
 use Rattle.pool.specs.Auditing.{audit_refusal, panel_shows}
 use Rattle.pool.specs.Calls.{Reads, Writes, Fails, Repairs, Prepares, Shows, Panels, Audits}
 use Rattle.pool.specs.WriteHolds.{write_refused}
-use Rattle.pool.specs.Changes.{write_none}
-use Rattle.pool.specs.RepairHolds.{repair_refused}
+use Rattle.pool.proofs.ChangesLaws.{write_none}
+use Rattle.pool.proofs.RepairHolds.{repair_refused}
 use Rattle.pool_look.specs.declared.Shown.{Shown}
 use Rattle.pool_look.specs.Shown.{shown_at}
 

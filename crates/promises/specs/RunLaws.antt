@@ -14,12 +14,15 @@ use Rattle.pool.specs.Repairing.{repair_record}
 use Rattle.pool.specs.Files.{written}
 use Rattle.pool.specs.Asked.{Sound, sound-passes}
 use Rattle.pool.specs.Holds.{Holds, zeros_hold}
-use Rattle.pool.specs.WriteHolds.{write_right, write_refused}
+use Rattle.pool.specs.WriteHolds.{write_refused}
+use Rattle.pool.proofs.WriteHoldsLaws.{write_right}
 use Rattle.pool.specs.FailHolds.{Kept, fail_right, fail_kept}
-use Rattle.pool.specs.RepairHolds.{repair_right, repair_kept}
-use Rattle.pool.specs.ScribbleHolds.{scribble_right}
-use Rattle.pool.specs.CountLaws.{at_most, unfailed_clear, fail_keeps_true, repair_keeps_true}
-use Rattle.pool.specs.Blind.{Agree, write_agree, fail_agree, repair_agree, scribble_agree}
+use Rattle.pool.proofs.RepairHolds.{repair_right, repair_kept}
+use Rattle.pool.proofs.ScribbleHoldsLaws.{scribble_right}
+use Rattle.pool.specs.CountLaws.{at_most, unfailed_clear, repair_keeps_true}
+use Rattle.pool.proofs.CountLaws.{fail_keeps_true}
+use Rattle.pool.specs.Blind.{Agree}
+use Rattle.pool.proofs.BlindLaws.{write_agree, fail_agree, repair_agree, scribble_agree}
 use Rattle.proposal.specs.Running.{plan_record}
 use Rattle.proposal.specs.PlanHolds.{plan_right, plan_kept, plan_keeps_true, plan_agree}
 use Rattle.swapping.specs.Swapping.{swap_record}

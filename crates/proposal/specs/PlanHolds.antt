@@ -22,7 +22,7 @@ use Rattle.pool.specs.Repairing.{mended, repair_record}
 use Rattle.pool.specs.StoringLaws.{storing-at, storing-length, storing_changes}
 use Rattle.pool.specs.Holds.{Holds}
 use Rattle.pool.specs.FailHolds.{Kept}
-use Rattle.pool.specs.RepairHolds.{repair_right, stored_stays}
+use Rattle.pool.proofs.RepairHolds.{repair_right, stored_stays}
 use Rattle.pool.specs.CountLaws.{repair_clears}
 use Rattle.pool.specs.Changes.{Mended}
 use Rattle.pool.specs.Blind.{Agree}

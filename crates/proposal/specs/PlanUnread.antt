@@ -17,7 +17,8 @@ use Rattle.parity.specs.Group.{rebuilt}
 use Rattle.homes.specs.declared.Record.{Record}
 use Rattle.homes.specs.Listed.{listed}
 use Rattle.pool.specs.Repairing.{mended}
-use Rattle.pool.specs.Unread.{Alike, grant_same, alike_after, new-homes_unread, lost_unread, units_unread, stored_unread, storing_unread, own_unread}
+use Rattle.pool.specs.Unread.{Alike, grant_same}
+use Rattle.pool.proofs.UnreadLaws.{alike_after, new-homes_unread, lost_unread, units_unread, stored_unread, storing_unread, own_unread}
 use Rattle.proposal.specs.Plans.{entry_size, entries, group_named, content_named, source, names, named_once, each_once, source_good, sources_good, names_missing, plan_good}
 use Rattle.proposal.specs.Pairs.{missing_pair}
 use Rattle.proposal.specs.Running.{plan_refusal, named_by, unused, planned_byte, plan_image, plan_record, plan_count}

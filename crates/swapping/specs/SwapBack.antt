@@ -28,8 +28,8 @@ use Rattle.pool.specs.Scribbling.{scribbled}
 use Rattle.pool.specs.Asked.{Sound, sound-passes, FailAsked, fail_asked}
 use Rattle.pool.specs.Holds.{Holds, read_right}
 use Rattle.pool.specs.FailHolds.{Kept, entry_same, fail_right, fail_kept, fail_listed}
-use Rattle.pool.specs.RepairHolds.{repair_right, repair_kept, repair_length}
-use Rattle.pool.specs.ScribbleHolds.{scribble_right, scribble_length}
+use Rattle.pool.proofs.RepairHolds.{repair_right, repair_kept, repair_length}
+use Rattle.pool.proofs.ScribbleHoldsLaws.{scribble_right, scribble_length}
 use Rattle.swapping.specs.Swapping.{swap_refusal, swap_image}
 use Rattle.swapping.specs.SwapLaws.{SwapAsked, swap_granted, swap_record_lem}
 use Rattle.swapping.specs.SwapHolds.{swap_right}

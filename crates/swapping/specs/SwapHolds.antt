@@ -16,7 +16,8 @@ use Rattle.pool.specs.CountLaws.{repaired_clear}
 use Rattle.pool.specs.Asked.{Sound}
 use Rattle.pool.specs.Holds.{Holds}
 use Rattle.pool.specs.FailHolds.{Kept}
-use Rattle.pool.specs.ScribbleHolds.{scribble_any, scribble_right}
+use Rattle.pool.specs.ScribbleHolds.{scribble_any}
+use Rattle.pool.proofs.ScribbleHoldsLaws.{scribble_right}
 use Rattle.pool.specs.Blind.{Agree}
 use Rattle.pool.specs.Elsewhere.{AgreeElsewhere, agree_of, elsewhere_of}
 use Rattle.swapping.specs.Swapping.{swap_refusal, swap_image, swap_record}

@@ -10,7 +10,8 @@ use Rattle.homes.specs.Listed.{listed, listed_same}
 use Rattle.homes.specs.Records.{entry, failed}
 use Rattle.homes.specs.Dropping.{list_place, skip, without}
 use Rattle.homes.specs.DroppingLaws.{entry-without, skip-few}
-use Rattle.pool.specs.Unread.{Alike, grant_same, alike_after, homes_unread, stored_unread, storing_unread, own_unread}
+use Rattle.pool.specs.Unread.{Alike, grant_same}
+use Rattle.pool.proofs.UnreadLaws.{alike_after, homes_unread, stored_unread, storing_unread, own_unread}
 use Rattle.swapping.specs.Swapping.{swap_refusal, swap_image, swap_record}
 use Rattle.swapping.specs.SwapLaws.{swap_asked, few-entries, less_good}
 

@@ -11,7 +11,7 @@ use Rattle.homes.specs.declared.Record.{Record}
 use Rattle.homes.specs.Listed.{unlisted_sub}
 use Rattle.homes.specs.Records.{entry, Good}
 use Rattle.pool.specs.Counting.{missing_units, on_target}
-use Rattle.pool.specs.TargetCounts.{missing_by_targets, repaired_bare}
+use Rattle.pool.proofs.TargetCounts.{missing_by_targets, repaired_bare}
 use Rattle.tally.specs.Walking.{Walking}
 
 module _ (y : Layout) (v : Valid y) (R : Record) (good : Good y R) where

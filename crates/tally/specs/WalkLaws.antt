@@ -24,7 +24,8 @@ use Rattle.homes.specs.Standing.{TargetsAre, Standing, HomesAre}
 use Rattle.homes.proofs.StandingLaws.{standing_of, homes_are}
 use Rattle.pool.specs.Counting.{on_target}
 use Rattle.pool.specs.Elsewhere.{is_home}
-use Rattle.pool.specs.FrameCount.{home_in, own_home, home_test, unrepaired_home, on_target_by_frames, on_target_few}
+use Rattle.pool.specs.FrameCount.{home_in}
+use Rattle.pool.proofs.FrameCountLaws.{own_home, home_test, unrepaired_home, on_target_by_frames, on_target_few}
 use Rattle.tally.specs.Walking.{Walking, Here, in_rows, in_tile_of}
 
 -- ---- a unit

@@ -5,7 +5,7 @@ use native.Mathlib.Nat.{div-add-mod}
 use native.Mathlib.Omega.{arith}
 use Rattle.numbers.specs.Shapes.{layout_products}
 use Rattle.place.specs.ByteLaws.{data_bytes}
-use Rattle.pool.specs.Changes.{written_none}
+use Rattle.pool.proofs.ChangesLaws.{written_none}
 use Rattle.survey.specs.Surveyed.{Surveying}
 use Rattle.range_write.specs.Underway.{data_span, span_few, Underway, underway-start, group_inside, fits_here, apart_here, named_here, underway_next, underway-done}
 use Rattle.range_write.proofs.write_range.Statement.{statement}

@@ -1,0 +1,11 @@
+pub mod OtherwiseLaws
+pub mod WriteHoldsLaws
+pub mod RepairHolds
+pub mod ScribbleHoldsLaws
+pub mod ChangesLaws
+pub mod BlindLaws
+pub mod ElsewhereKeptLaws
+pub mod UnreadLaws
+pub mod CountLaws
+pub mod FrameCountLaws
+pub mod TargetCounts
