@@ -1,6 +1,7 @@
 -- The planner content after content, group after group: what its buffer holds, and that this comes to the plan.
 use Rattle.std.specs.Prelude.{◌≡◌, refl, Bool, true, false, not, List, ℕ, ◌+◌, ◌*◌, ◌-◌, ◌<◌, ◌≤◌, eqb, length, drop}
-use Rattle.std.proofs.Common.{sym, ap, ◌∙◌, subst, mul-le-mul_left, mul-zero, mul-suc, add-sub_of_le, le_refl, add-one, arith, length-append, length-drop, ext_get_or, get_or-append-add, get_or-drop}
+use Rattle.std.proofs.Common.{sym, ap, ◌∙◌, subst, mul-le-mul_left, mul-zero, mul-suc, add-sub_of_le, le_refl, add-one, arith}
+use Rattle.std.proofs.Common.{length-append, length-drop, ext_get_or, get_or-append-add, get_or-drop}
 use Rattle.std.proofs.Math.Path.{ap₂}
 use Rattle.std.proofs.Math.ListN.{get_or-append}
 use Rattle.lists.specs.Pick.{pick, bit, below_or_not}
