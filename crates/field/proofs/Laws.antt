@@ -1,12 +1,10 @@
 -- The laws of the field of 256. The product is linear in each of its arguments; a law with linear sides is then computed at powers of two.
-use Rattle.std.specs.Prelude.{◌≡◌, refl, ℕ, zero, suc, ◌*◌, ◌/◌, ◌%◌, ◌^◌, ◌<◌, ◌≤◌, eqb}
-use Rattle.std.proofs.Common.{sym, ap, ap₂, ◌∙◌, mod-lt, mod-eq_of_lt, zero-lt-suc, add-zero, not-suc-le-zero, le_of_suc-le-suc, arith, lit<}
-use Rattle.std.proofs.Math.Nat.{mod-mod}
-use Rattle.std.specs.Int.Bits.{bit_xor, differ, xor_self, xor_zero_r, shifted_even, shifted_half}
-use Rattle.std.proofs.lemmas.Nat.{xor_block, xor_mod, xor_shr, xor_lt}
-use Rattle.field.specs.Xor.{bit_cases, digit, xor_half, xor_odd, xor_swap}
-use Rattle.field.specs.Linear.{Additive, linear_ext, high_low}
-use Rattle.lists.specs.Search.{all, all-at, all-eq}
+use Rattle.std.specs.Prelude.{◌≡◌, refl, ℕ, zero, suc, ◌*◌, ◌/◌, ◌%◌, ◌^◌, ◌<◌}
+use Rattle.std.proofs.Common.{sym, ap, ap₂, ◌∙◌, mod-lt, arith, lit<}
+use Rattle.std.specs.Int.Bits.{bit_xor, xor_self}
+use Rattle.std.proofs.lemmas.Nat.{xor_mod, xor_shr, xor_lt}
+use Rattle.field.specs.Xor.{digit, xor_odd, xor_swap}
+use Rattle.field.specs.Linear.{Additive, linear_ext}
 use Rattle.field.specs.Byte.{double, scale, mul_digits, mul, inv, power_digits, div}
 use Rattle.field.specs.Laws.{xor_twice, differ_29, scale-add, scale-lt, mul_low, mul-xor, mul-zero, mul-one, comm_basis, low, assoc_basis, low_l, low_r, mul-inv}
 

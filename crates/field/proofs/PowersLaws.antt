@@ -1,8 +1,7 @@
 -- Powers of 2, and the laws by which tables of them give products: the exponents add, and 2 to the 255 is 1.
-use Rattle.std.specs.Prelude.{◌≡◌, refl, ℕ, zero, suc, ◌+◌, ◌-◌, ◌<◌, ◌≤◌}
-use Rattle.std.proofs.Common.{sym, ap, ap₂, ◌∙◌, mod-eq_of_lt, zero-lt-suc, suc-ne-zero, add-zero, add-suc, arith, lit<}
-use Rattle.std.specs.Int.Bits.{xor_zero_r}
-use Rattle.field.specs.Byte.{double, scale, mul_digits, mul, inv, power_digits}
+use Rattle.std.specs.Prelude.{◌≡◌, ℕ, zero, suc, ◌+◌, ◌-◌, ◌<◌, ◌≤◌}
+use Rattle.std.proofs.Common.{sym, ap, ap₂, ◌∙◌, zero-lt-suc, suc-ne-zero, add-zero, add-suc, arith, lit<}
+use Rattle.field.specs.Byte.{double, mul, inv}
 use Rattle.field.specs.Laws.{mul-one, mul-inv}
 use Rattle.field.proofs.Laws.{double-lt, mul_assoc, mul_left_inj, no_zero_divisors, inv-lt}
 use Rattle.field.specs.Powers.{power, double-mul, positive, power_255}
@@ -31,6 +30,10 @@ power-add m (suc n) =
 -- so 255 may be taken off an exponent
 pub power_turn : (n : ℕ) → power (n + 255) ≡ power n
 power_turn n = power-add n 255 ∙ ap (mul (power n)) power_255 ∙ mul-one (power n) (power-lt n)
+
+-- the same, for an exponent of at least 255
+pub power_turned : (s : ℕ) → 255 ≤ s → power (s - 255) ≡ power s
+power_turned s h = let same : s - 255 + 255 ≡ s = omega arith in sym (power_turn (s - 255)) ∙ ap power same
 
 -- the product of two powers
 pub mul_powers : (m n a b : ℕ) → power m ≡ a → power n ≡ b → power (m + n) ≡ mul a b

@@ -1,10 +1,7 @@
 -- The sum and the product as operations that do not compute on variables, with their laws, and the set by which `simp` settles
 -- an equation of sums of products: it multiplies out, sorts, and takes pairs of equal terms away.
-use Rattle.std.specs.Prelude.{◌≡◌, refl, ℕ, ◌<◌}
-use Rattle.std.proofs.lemmas.Nat.{xor_comm, xor_lt}
-use Rattle.std.specs.Int.Bits.{xor_self, xor_zero_r}
+use Rattle.std.specs.Prelude.{◌≡◌, ℕ}
 use Rattle.field.specs.Byte.{◌⊕◌, mul}
-use Rattle.field.specs.Xor.{xor_assoc, xor-left_comm, xor_cancel}
 use Rattle.field.specs.Laws.{mul-xor, mul-zero}
 use Rattle.field.proofs.Laws.{mul_comm, mul_assoc, mul_left_comm, xor-mul, zero-mul}
 use Rattle.field.specs.Ring.{⊕-comm, ⊕-assoc, ⊕-left-comm, ⊕-self, ⊕-cancel, ⊕-zero, zero_⊕, mul_⊕}

@@ -1,10 +1,8 @@
 -- Sums in the field: f 0 + f 1 + .. + f (n - 1), where + is exclusive or.
-use Rattle.std.specs.Prelude.{◌≡◌, refl, ℕ, zero, suc, ◌<◌}
-use Rattle.std.proofs.Common.{sym, ap, ap₂, ◌∙◌, le_trans, le_refl, lit<}
-use Rattle.std.proofs.Math.Nat.{le-suc}
-use Rattle.field.specs.Byte.{◌⊕◌, mul}
-use Rattle.field.specs.Laws.{mul-zero}
-use Rattle.field.specs.Ring.{⊕-zero, ⊕-lt, mul_⊕}
+use Rattle.std.specs.Prelude.{◌≡◌, ℕ, zero, suc}
+use Rattle.std.proofs.Common.{sym, ap, ◌∙◌}
+use Rattle.field.specs.Byte.{◌⊕◌}
+use Rattle.field.specs.Ring.{⊕-zero}
 use Rattle.field.proofs.RingLaws.{ring}
 use Rattle.field.specs.Sum.{sum_to}
 

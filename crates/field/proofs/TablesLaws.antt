@@ -1,9 +1,7 @@
 -- "tables of powers and logarithms, 256 entries each": the rule of each, and one test over the whole table that shows it.
-use Rattle.std.specs.Prelude.{◌≡◌, Bool, true, List, [], ◌∷◌, ℕ, zero, suc, ◌+◌, ◌-◌, ◌<◌, eqb, length, get_or}
-use Rattle.std.proofs.Common.{sym, ap, ◌∙◌, subst, not-suc-le-zero, le_of_suc-le-suc, add-zero, zero-add, add-suc, suc-add, arith, eqb-true}
-use Rattle.lists.specs.Pick.{both, both_true}
+use Rattle.std.specs.Prelude.{◌≡◌, List, ℕ, suc, ◌-◌, ◌<◌, get_or}
+use Rattle.std.proofs.Common.{ap, ◌∙◌, subst, arith}
 use Rattle.lists.specs.Bijection.{Bijection, undone_is_bijection}
-use Rattle.field.specs.Byte.{double}
 use Rattle.field.specs.Powers.{power}
 use Rattle.field.proofs.PowersLaws.{power-lt, power_pos}
 use Rattle.field.specs.Tables.{Logs}

@@ -3,11 +3,11 @@ use Rattle.std.specs.Prelude.{◌≡◌, refl, ℕ, zero, suc, ◌*◌, ◌/◌,
 use Rattle.std.proofs.Common.{sym, ap, ap₂, ◌∙◌, mod-lt, mod-eq_of_lt, zero-lt-suc, add-zero, not-suc-le-zero, le_of_suc-le-suc, arith, lit<}
 use Rattle.std.proofs.Math.Nat.{mod-mod}
 use Rattle.std.specs.Int.Bits.{bit_xor, differ, xor_self, xor_zero_r, shifted_even, shifted_half}
-use Rattle.std.proofs.lemmas.Nat.{xor_block, xor_mod, xor_shr, xor_lt}
+use Rattle.std.proofs.lemmas.Nat.{xor_block}
 use Rattle.field.specs.Xor.{bit_cases, digit, xor_half, xor_odd, xor_swap}
-use Rattle.field.specs.Linear.{Additive, linear_ext, high_low}
+use Rattle.field.specs.Linear.{high_low}
 use Rattle.lists.specs.Search.{all, all-at, all-eq}
-use Rattle.field.specs.Byte.{double, scale, mul_digits, mul, inv, power_digits, div}
+use Rattle.field.specs.Byte.{double, scale, mul_digits, mul, inv, power_digits}
 
 pub xor_twice : (a b : ℕ) → bit_xor a b * 2 ≡ bit_xor (a * 2) (b * 2)
 xor_twice a b = sym (simp add-zero at (xor_block 1 a b 0 0 (zero-lt-suc 1) (zero-lt-suc 1)))

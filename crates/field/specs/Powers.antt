@@ -1,9 +1,8 @@
 -- Powers of 2, and the laws by which tables of them give products: the exponents add, and 2 to the 255 is 1.
-use Rattle.std.specs.Prelude.{◌≡◌, refl, ℕ, zero, suc, ◌+◌, ◌-◌, ◌<◌, ◌≤◌}
-use Rattle.std.proofs.Common.{sym, ap, ap₂, ◌∙◌, mod-eq_of_lt, zero-lt-suc, suc-ne-zero, add-zero, add-suc, arith, lit<}
+use Rattle.std.specs.Prelude.{◌≡◌, refl, ℕ, zero, suc, ◌<◌}
+use Rattle.std.proofs.Common.{sym, ap, ◌∙◌, mod-eq_of_lt, zero-lt-suc}
 use Rattle.std.specs.Int.Bits.{xor_zero_r}
 use Rattle.field.specs.Byte.{double, scale, mul_digits, mul, inv, power_digits}
-use Rattle.field.specs.Laws.{mul-one, mul-inv}
 
 -- 2 to the n: the first is 1, and each next is twice the one before
 unfoldable pub power : ℕ → ℕ

@@ -5,7 +5,7 @@ use Rattle.std.proofs.lemmas.Nat.{xor_comm, xor_lt}
 use Rattle.std.specs.Int.Bits.{xor_self, xor_zero_r}
 use Rattle.field.specs.Byte.{◌⊕◌, mul}
 use Rattle.field.specs.Xor.{xor_assoc, xor-left_comm, xor_cancel}
-use Rattle.field.specs.Laws.{mul-xor, mul-zero}
+use Rattle.field.specs.Laws.{mul-xor}
 
 pub ⊕-comm : (a b : ℕ) → a ⊕ b ≡ b ⊕ a
 unfolding ◌⊕◌

@@ -1,6 +1,6 @@
 -- Sums in the field: f 0 + f 1 + .. + f (n - 1), where + is exclusive or.
 use Rattle.std.specs.Prelude.{◌≡◌, refl, ℕ, zero, suc, ◌<◌}
-use Rattle.std.proofs.Common.{sym, ap, ap₂, ◌∙◌, le_trans, le_refl, lit<}
+use Rattle.std.proofs.Common.{ap, ap₂, ◌∙◌, le_trans, le_refl, lit<}
 use Rattle.std.proofs.Math.Nat.{le-suc}
 use Rattle.field.specs.Byte.{◌⊕◌, mul}
 use Rattle.field.specs.Laws.{mul-zero}

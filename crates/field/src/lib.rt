@@ -89,6 +89,7 @@ fn power_of(powers: &[u8; 256], n: usize) -> u8
 }
 
 // An exponent below 255 that gives the same power: 2 to the 255 is 1. The choice is between two numbers, so that no branch has to be foretold.
+#[tactic(auto, using(crate::proofs::PowersLaws::power_turned))]
 fn folded(s: usize) -> usize
     requires { s < 510 }
     ensures { (result < 255) × (power result ≡ power s) }
