@@ -1,7 +1,6 @@
 -- `proposal_check::entry_rank` meets its contract: each test that fails shows that the entry is not good, and where none does the flags below the
 -- content are counted.
 use native.Mathlib.Omega.{arith}
-use borrow.Author.Rules.{rules}
 use Rattle.proposal_check.specs.Entry.{content_above, content-present, sources_bad, rank_here, few_below}
 use Rattle.proposal_check.proofs.entry_rank.Goals as goal
 

@@ -1,7 +1,6 @@
 -- `proposal_check::plan_good` meets its contract: the length, the number of entries, and the entries.
 use mathlib.Core.Path.{sym}
 use native.Mathlib.Omega.{arith}
-use borrow.Author.Rules.{rules}
 use Rattle.proposal_check.specs.Checked.{plan_broken, plan_whole, plan_uneven, plan_even}
 use Rattle.proposal_check.proofs.plan_good.Goals as goal
 

@@ -1,10 +1,8 @@
 -- `proposal_check::sources_good` meets its contract. The loop keeps: the sources passed are good, and taken, as the missing contents are.
 use mathlib.Core.Path.{sym}
-use Prim.Native.Nat.{◌+◌, ◌-◌, ◌≤◌, ◌<◌}
 use native.Mathlib.Omega.{arith}
 use borrow.Author.Rules.{rules}
-use lib.ListN.{length}
-use Rattle.proposal_check.specs.Entry.{number_from, Taken, taken_begin, taken_next, taken_end, source_above, source_taken}
+use Rattle.proposal_check.specs.Entry.{taken_begin, taken_next, taken_end, source_above, source_taken}
 use Rattle.proposal_check.proofs.sources_good.Goals as goal
 
 pub loop-j-init : goal.loop-j-init

@@ -1,12 +1,7 @@
 -- `proposal_check::window_good` meets its contract. The loop keeps: the permutation in hand is its tile's, and the entries before `at` have passed.
-use mathlib.Core.Path.{◌≡◌, sym}
-use Prim.Native.Nat.{◌+◌, ◌-◌, ◌%◌, ◌≤◌, ◌<◌}
+use mathlib.Core.Path.{sym}
 use native.Mathlib.Omega.{arith}
-use borrow.Author.Rules.{rules}
-use lib.ListN.{length, get_or}
-use Rattle.place.specs.Places.{tile_permutation}
-use Rattle.proposal.specs.Plans.{entry_size}
-use Rattle.proposal_check.specs.Steps.{Passing, pass_begin, pass_end, entry_room, pass_outside, pass_by, pass_bad, weight_fits, pass_twice, pass_in}
+use Rattle.proposal_check.specs.Steps.{pass_begin, pass_end, entry_room, pass_outside, pass_by, pass_bad, weight_fits, pass_twice, pass_in}
 use Rattle.proposal_check.proofs.window_good.Goals as goal
 
 pub overflow_add-size : goal.overflow_add-size

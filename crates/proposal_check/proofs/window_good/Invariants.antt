@@ -1,11 +1,7 @@
-use mathlib.Core.Path.{◌≡◌, sym}
-use Prim.Native.Nat.{◌+◌, ◌-◌, ◌%◌, ◌≤◌, ◌<◌}
-use native.Mathlib.Omega.{arith}
-use borrow.Author.Rules.{rules}
-use lib.ListN.{length, get_or}
+use mathlib.Core.Path.{◌≡◌}
+use Prim.Native.Nat.{◌-◌}
 use Rattle.place.specs.Places.{tile_permutation}
-use Rattle.proposal.specs.Plans.{entry_size}
-use Rattle.proposal_check.specs.Steps.{Passing, pass_begin, pass_end, entry_room, pass_outside, pass_by, pass_bad, weight_fits, pass_twice, pass_in}
+use Rattle.proposal_check.specs.Steps.{Passing}
 use Rattle.proposal_check.proofs.window_good.Given as goal
 
 abbrev pub invariant-loop-at : goal.invariant-loop-at

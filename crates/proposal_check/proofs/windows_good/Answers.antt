@@ -1,10 +1,8 @@
 -- `proposal_check::windows_good` meets its contract. The loop keeps: the windows below w are good.
-use mathlib.Core.Path.{◌≡◌, sym, ◌∙◌}
-use mathlib.Core.Bool.{true}
-use Prim.Native.Nat.{ℕ, ◌-◌, ◌≤◌, ◌<◌}
+use mathlib.Core.Path.{sym, ◌∙◌}
 use native.Mathlib.Nat.{not-suc-le-zero}
 use native.Mathlib.Omega.{arith}
-use Rattle.proposal_check.specs.Windows.{window_good, window_fails}
+use Rattle.proposal_check.specs.Windows.{window_fails}
 use Rattle.proposal_check.specs.Steps.{window_next, windows_end}
 use Rattle.proposal_check.proofs.windows_good.Goals as goal
 

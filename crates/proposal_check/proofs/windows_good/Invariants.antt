@@ -1,11 +1,7 @@
-use mathlib.Core.Path.{◌≡◌, sym, ◌∙◌}
+use mathlib.Core.Path.{◌≡◌}
 use mathlib.Core.Bool.{true}
 use Prim.Native.Nat.{ℕ, ◌-◌, ◌≤◌, ◌<◌}
-use native.Mathlib.Nat.{not-suc-le-zero}
-use native.Mathlib.Omega.{arith}
-use borrow.Author.Tests.{not-true, not-false}
-use Rattle.proposal_check.specs.Windows.{window_good, window_fails}
-use Rattle.proposal_check.specs.Steps.{window_next, windows_end}
+use Rattle.proposal_check.specs.Windows.{window_good}
 use Rattle.proposal_check.proofs.windows_good.Given as goal
 
 abbrev pub invariant-loop-w : goal.invariant-loop-w
