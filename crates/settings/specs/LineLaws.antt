@@ -185,7 +185,10 @@ module _ (version : ℕ) (y : Layout) (r : Addable version y) where
   held : (fields_at line 0 (setting_fields version) ≡ true) × (numbers_at line 0 (setting_fields version) ≡ held_numbers (eqb version 2) version y)
   unfolding setting_line
   held =
-      subst (λ (fs : List (List ℕ)). (fields_at (field_line fs) 0 (setting_fields version) ≡ true) × (numbers_at (field_line fs) 0 (setting_fields version) ≡ held_numbers (eqb version 2) version y))
+      subst
+      (λ (fs : List (List ℕ)).
+      (fields_at (field_line fs) 0 (setting_fields version) ≡ true)
+      × (numbers_at (field_line fs) 0 (setting_fields version) ≡ held_numbers (eqb version 2) version y))
       (sym (held_fields (eqb version 2) version y)) (numbers_told (setting_fields version) (held_numbers (eqb version 2) version y) (held_fit (eqb version 2)))
 
   held_at : (i : ℕ) → at (numbers_at line 0 (setting_fields version)) i ≡ at (held_numbers (eqb version 2) version y) i
