@@ -1,8 +1,8 @@
 -- `proposal_run::left_out` meets its contract. The loop keeps: the flags are set at all contents but the sources passed. A turn is `left_turn`.
 use mathlib.Core.Path.{◌≡◌, refl, ◌∙◌, subst}
-use Prim.Native.Nat.{ℕ, ◌-◌, ◌≤◌}
+use Prim.Native.Nat.{ℕ}
 use native.Mathlib.Omega.{arith}
-use lib.ListN.{length, length-set}
+use lib.ListN.{length-set}
 use Rattle.proposal_run.specs.Turns.{LeftOut, left-none, left_turn}
 use Rattle.proposal_run.proofs.left_out.Goals as goal
 

@@ -1,8 +1,7 @@
-use mathlib.Core.Path.{◌≡◌, refl, ◌∙◌, subst}
-use Prim.Native.Nat.{ℕ, ◌-◌, ◌≤◌}
-use native.Mathlib.Omega.{arith}
-use lib.ListN.{length, length-set}
-use Rattle.proposal_run.specs.Turns.{LeftOut, left-none, left_turn}
+use mathlib.Core.Path.{◌≡◌}
+use Prim.Native.Nat.{◌-◌, ◌≤◌}
+use lib.ListN.{length}
+use Rattle.proposal_run.specs.Turns.{LeftOut}
 use Rattle.proposal_run.proofs.left_out.Given as goal
 
 abbrev pub invariant-loop-j : goal.invariant-loop-j

@@ -1,9 +1,7 @@
 -- `proposal_run::run_entries` meets its contract. The loop keeps: the entries before number `at` of the list are run, and what the next may keep.
 use mathlib.Core.Path.{◌∙◌}
-use Prim.Native.Nat.{◌-◌}
 use native.Mathlib.Omega.{arith}
-use Rattle.survey.specs.Surveyed.{Surveying}
-use Rattle.proposal_run.specs.Turns.{AtEntry, RanEntries, entry_room, run_begin, run_length, run_at, run_turn, run_end}
+use Rattle.proposal_run.specs.Turns.{entry_room, run_begin, run_length, run_at, run_turn, run_end}
 use Rattle.proposal_run.proofs.run_entries.Goals as goal
 
 pub shape_of-s-requires : goal.shape_of-s-requires

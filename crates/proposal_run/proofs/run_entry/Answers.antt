@@ -2,7 +2,6 @@
 -- is that of its sources. Then what the steps ask: that the numbers are there, and that the plan fits the image.
 use mathlib.Core.Path.{refl}
 use native.Mathlib.Omega.{arith}
-use borrow.Author.Rules.{rules}
 use Rattle.proposal_run.specs.Turns.{entry_room, entry_sources, entry_tile, entry_next, entry_ready, entry_done}
 use Rattle.proposal_run.proofs.run_entry.Goals as goal
 
