@@ -2,7 +2,8 @@
 use Rattle.std.specs.Prelude.{◌≡◌, refl, ℕ, zero, suc, ◌*◌, ◌-◌, ◌/◌, ◌%◌, ◌≤◌, ◌<◌}
 use Rattle.std.proofs.Common.{sym, ap, ◌∙◌, subst, inl, inr, le_refl, not-suc-le-zero, mod-lt, zero-lt-suc, mul-zero, mul_comm, mul_assoc, mul-pos, eq-zero-or-pos, mul_right_comm, arith}
 use Rattle.std.specs.Int.{◌∣◌}
-use Rattle.std.proofs.Math.Nat.{dvd_refl, dvd-zero, dvd-mod_iff, div-mul_cancel, mul-dvd-mul_left, mul-dvd-mul_right, dvd_of_mul-dvd-mul_right, pos_of_dvd_of_pos, mod_def, mul-sub, mul-div-mul_left, mul-div_assoc}
+use Rattle.std.proofs.Math.Nat.{dvd_refl, dvd-zero, dvd-mod_iff, div-mul_cancel, mul-dvd-mul_left, mul-dvd-mul_right, dvd_of_mul-dvd-mul_right, pos_of_dvd_of_pos}
+use Rattle.std.proofs.Math.Nat.{mod_def, mul-sub, mul-div-mul_left, mul-div_assoc}
 
 -- Euclid's rule with a bound on its steps
 unfoldable pub gcd_in : ℕ → ℕ → ℕ → ℕ
@@ -62,7 +63,12 @@ gcd_pos a b h = pos_of_dvd_of_pos (gcd_dvd a b).0 h
 
 -- m * a leaves m times what a leaves
 mul-mod-mul : (m a b : ℕ) → 0 < m → (m * a) % (m * b) ≡ m * (a % b)
-mul-mod-mul m a b h = mod_def (m * a) (m * b) ∙ ap (λ (q : ℕ). m * a - m * b * q) (mul-div-mul_left a b h) ∙ ap (λ (y : ℕ). m * a - y) (mul_assoc m b (a / b)) ∙ sym (mul-sub m a (b * (a / b))) ∙ ap (λ (y : ℕ). m * y) (sym (mod_def a b))
+mul-mod-mul m a b h =
+    mod_def (m * a) (m * b)
+    ∙ ap (λ (q : ℕ). m * a - m * b * q) (mul-div-mul_left a b h)
+    ∙ ap (λ (y : ℕ). m * a - y) (mul_assoc m b (a / b))
+    ∙ sym (mul-sub m a (b * (a / b)))
+    ∙ ap (λ (y : ℕ). m * y) (sym (mod_def a b))
 
 -- a factor of both comes out
 pub gcd-mul : (m a b : ℕ) → 0 < m → gcd (m * a) (m * b) ≡ m * gcd a b

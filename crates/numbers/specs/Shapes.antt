@@ -49,7 +49,12 @@ module _ (y : Layout) (v : Valid y) where
       div_dvd d n h = subst (λ (x : ℕ). n / d ∣ x) (mul-div_cancel' d h) (dvd-mul_left (n / d) d)
 
   pub groups_pos : 0 < groups y
-  groups_pos = elim (eq-zero-or-pos (groups y)) [ inl e ↦ absurd (lt_irrefl 0 (subst (λ (x : ℕ). 0 < x) (sym width-groups-rows ∙ ap (λ (c : ℕ). width y * c) e ∙ mul-zero (width y)) (mul-pos targets_pos rows_pos))) | inr h ↦ h ]
+  groups_pos =
+      elim (eq-zero-or-pos (groups y)) [
+        | inl e ↦ let z : y.p * rows y ≡ 0 = sym width-groups-rows ∙ ap (λ (c : ℕ). width y * c) e ∙ mul-zero (width y) in
+            absurd (lt_irrefl 0 (subst (λ (x : ℕ). 0 < x) z (mul-pos targets_pos rows_pos)))
+        | inr h ↦ h
+      ]
 
   -- B is a multiple of both, and of every multiple of both a divisor
   pub block_multiple : (width y ∣ block y) × (y.p ∣ block y)

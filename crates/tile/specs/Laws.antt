@@ -1,6 +1,7 @@
 -- The laws of a tile's permutation: a bijection of 0 .. P-1 that keeps what is above, and its inverse undoes it both ways.
 use Rattle.std.specs.Prelude.{◌≡◌, ℕ, zero, suc, ◌+◌, ◌-◌, ◌/◌, ◌^◌, ◌<◌, ◌≤◌, Bool, true, false, ◌≢◌, List, [], ◌∷◌, length, ◌==◌, slice_set, refl}
-use Rattle.std.proofs.Common.{sym, ap, ◌∙◌, subst, zero-le, suc-le-suc, le_refl, le_trans, le_of_suc-le-suc, not-suc-le-zero, mul-le-mul_right, ne_of_gt, lt_of_le_of_lt, sub-one, arith, length-set, get_or-set_same, get_or-set_other, lt-length-set, eqb-true, eq-eqb}
+use Rattle.std.proofs.Common.{sym, ap, ◌∙◌, subst, zero-le, suc-le-suc, le_refl, le_trans, le_of_suc-le-suc, not-suc-le-zero, mul-le-mul_right, ne_of_gt, lt_of_le_of_lt}
+use Rattle.std.proofs.Common.{sub-one, arith, length-set, get_or-set_same, get_or-set_other, lt-length-set, eqb-true, eq-eqb}
 use Rattle.lists.specs.Pick.{pick, equal_or_not}
 use Rattle.lists.specs.Tabulate.{at, length-tabulate, get_d_tabulate}
 use Rattle.lists.specs.Bijection.{Bijection, injective, flip, flip-left, flip_right, flip-other, flipped, same, undone}
@@ -78,7 +79,8 @@ shuffle_above zero s l t hl h = refl
 shuffle_above (suc i) s l t hl h =
     let j : ℕ = draw_of (next_of s) (suc i) in
     let d : draw_of (next_of s) (suc i) ≤ suc i = draw_le (next_of s) (suc i) (next_lt s) in
-    shuffle_above i (next_of s) (exchange l (suc i) (draw_of (next_of s) (suc i))) t (subst (λ (n : ℕ). i < n) (sym (length-exchange l (suc i) (draw_of (next_of s) (suc i)))) (omega arith)) (omega arith)
+    shuffle_above i (next_of s) (exchange l (suc i) (draw_of (next_of s) (suc i))) t
+    (subst (λ (n : ℕ). i < n) (sym (length-exchange l (suc i) (draw_of (next_of s) (suc i)))) (omega arith)) (omega arith)
     ∙ at-exchange l (suc i) (draw_of (next_of s) (suc i)) t hl (omega arith)
     ∙ ap (at l) (flip-other (suc i) (draw_of (next_of s) (suc i)) t (ne_of_gt h) (ne_of_gt (omega arith)))
 
