@@ -9,10 +9,10 @@ use Prim.Native.Nat.{ℕ, zero, suc, ◌+◌, ◌<◌, ◌≤◌}
 use native.Mathlib.Omega.{arith}
 use borrow.Author.Tests.{eqb-true, eqb-false, eq-eqb, ne_eqb, not-true}
 use Rattle.std.proofs.Math.Dec.{eqb}
-use Rattle.lists.specs.Pick.{pick, both, pick_true, pick-false, either_way, both_true, clash}
+use Rattle.lists.specs.Pick.{pick, pick_true, pick-false, either_way, both_true, clash}
 use Rattle.lists.specs.Count.{count, count_weaker, count_more, count_none}
 use Rattle.lists.specs.Search.{any, lowest, any_none, any-true, any_room, lowest_is}
-use Rattle.homes.specs.Listed.{listed, listed_suc, listed_same, unlisted, unlisted_of}
+use Rattle.homes.specs.Listed.{listed, listed_suc, unlisted, unlisted_of}
 use Rattle.homes.specs.Homes.{free, move, homes}
 use Rattle.homes.specs.HomesLaws.{Apart, moved_off, free_same}
 

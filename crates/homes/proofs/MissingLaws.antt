@@ -9,7 +9,6 @@ use Rattle.lists.specs.Count.{count}
 use Rattle.lists.specs.Search.{any}
 use Rattle.numbers.specs.declared.Layout.{Layout}
 use Rattle.numbers.specs.Layouts.{Valid, width, contents}
-use Rattle.place.specs.PlaceLaws.{apart}
 use Rattle.homes.specs.declared.Record.{Record}
 use Rattle.homes.specs.Listed.{listed, listed_same}
 use Rattle.homes.specs.Homes.{homes}

@@ -8,9 +8,7 @@ use Rattle.lists.specs.Pick.{pick, both}
 use Rattle.lists.specs.Search.{lowest, any_same, lowest_same}
 use Rattle.lists.specs.Tabulate.{at}
 use Rattle.numbers.specs.declared.Layout.{Layout}
-use Rattle.numbers.specs.declared.Shape.{Shape}
-use Rattle.numbers.specs.Layouts.{Valid, width, contents}
-use Rattle.place.specs.PlaceLaws.{place_in}
+use Rattle.numbers.specs.Layouts.{Valid, contents}
 use Rattle.homes.specs.declared.Record.{Record}
 use Rattle.homes.specs.Listed.{listed}
 use Rattle.homes.specs.Homes.{free, move, homes}
@@ -19,8 +17,7 @@ use Rattle.homes.specs.Records.{entry, failed, Good}
 use Rattle.homes.specs.Missing.{target_at, home, missing}
 use Rattle.homes.specs.MissingLaws.{units_apart}
 use Rattle.homes.proofs.MissingLaws.{home-lt}
-use Rattle.homes.specs.Standing.{InTile, TargetsAre, Units, Standing, HomesAre, MissingAre}
-use Rattle.homes.specs.StandingLaws.{few_units}
+use Rattle.homes.specs.Standing.{TargetsAre, Units, Standing, HomesAre, MissingAre}
 
 module _ (target target' : ℕ → ℕ) (m K : ℕ) (e : ℕ → ℕ) (same : (u : ℕ) → u < m + K → target u ≡ target' u) where
   pub move_cong : (j : ℕ) (h h' : ℕ → ℕ) → ((c : ℕ) → c < m → h c ≡ h' c) → ((c : ℕ) → c < m → h' c < m + K)

@@ -1,22 +1,10 @@
 -- What the steps of the code show: of the record's test, of the search for a spare, of a move, and of a list with one entry fewer.
-use Rattle.std.specs.Prelude.{◌≡◌, refl, Bool, true, List, [], ◌∷◌, ℕ, ◌+◌, ◌-◌, ◌≤◌, ◌<◌, leb, ltb}
+use Rattle.std.specs.Prelude.{◌≡◌, refl, List, ℕ, ◌+◌, ◌≤◌, ◌<◌}
 use Rattle.std.proofs.Math.Path.{sym, ap}
-use Rattle.std.proofs.Common.{◌∙◌, add-one, arith, le-leb, lt-ltb, le-ltb, eq-eqb, ne_eqb}
-use Rattle.std.proofs.Math.Bool.{false, not}
-use Rattle.std.proofs.lemmas.Bool.{lt-leb}
-use Rattle.std.proofs.Math.Dec.{eqb}
-use Rattle.lists.specs.Pick.{pick, pick_true, pick-false, both_true, both_hold, not-both_ways, clash}
-use Rattle.lists.specs.Search.{any, all, lowest, all-at}
+use Rattle.std.proofs.Common.{◌∙◌, add-one, arith}
 use Rattle.lists.specs.Tabulate.{at}
-use Rattle.lists.specs.Refusal.{◌or_else◌, refusal_by, or_else_left, or_else_right, refusal_append}
-use Rattle.numbers.specs.declared.Layout.{Layout}
-use Rattle.numbers.specs.Layouts.{all_contents}
-use Rattle.homes.specs.declared.Record.{Record}
-use Rattle.homes.specs.Listed.{listed}
-use Rattle.homes.specs.Homes.{free, move, homes}
+use Rattle.homes.specs.Homes.{move, homes}
 use Rattle.homes.proofs.HomesLaws.{homes_apart}
-use Rattle.homes.specs.Records.{entry, entry_good, record_good, failures_refusal, record_refusal}
-use Rattle.homes.specs.Dropping.{list_place, skip, entry_without}
 use Rattle.homes.specs.Standing.{Units, Standing, HomesAre}
 use Rattle.homes.proofs.StandingLaws.{move_cong}
 

@@ -1,18 +1,16 @@
 -- Laws of homes under a list: under at most K entries a free spare always exists, homes are different units, and none lies on a listed target.
 -- That the entries differ or are targets plays no part.
 use Rattle.std.specs.Prelude.{◌≡◌, ◌⊎◌, Bool}
-use Rattle.std.proofs.Math.Path.{refl, sym, ap, subst, fun_ext}
-use Rattle.std.proofs.Common.{◌∙◌, le_refl, not-suc-le-zero}
-use Rattle.std.proofs.Math.Logic.{inl, inr, ⊎_elim}
+use Rattle.std.proofs.Math.Path.{refl, ap, fun_ext}
+use Rattle.std.proofs.Math.Logic.{inl, inr}
 use Rattle.std.proofs.Math.Bool.{true, false, not}
 use Prim.Native.Nat.{ℕ, zero, suc, ◌+◌, ◌<◌, ◌≤◌}
 use native.Mathlib.Omega.{arith}
-use borrow.Author.Tests.{eqb-true, eqb-false, eq-eqb, ne_eqb, not-true}
+use borrow.Author.Tests.{ne_eqb}
 use Rattle.std.proofs.Math.Dec.{eqb}
-use Rattle.lists.specs.Pick.{pick, both, pick_true, pick-false, either_way, both_true, clash}
-use Rattle.lists.specs.Count.{count, count_weaker, count_more, count_none}
-use Rattle.lists.specs.Search.{any, lowest, any_none, any-true, any_room, lowest_is}
-use Rattle.homes.specs.Listed.{listed, listed_suc, listed_same, unlisted, unlisted_of}
+use Rattle.lists.specs.Pick.{pick, both, pick-false}
+use Rattle.lists.specs.Search.{any}
+use Rattle.homes.specs.Listed.{listed_same}
 use Rattle.homes.specs.Homes.{free, move, homes}
 
 -- ---- homes are units, and all different

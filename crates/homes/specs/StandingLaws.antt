@@ -1,23 +1,13 @@
 -- Homes hang on the targets of the group's own units alone; so what the code works out from a group's targets are the layout's homes.
-use Rattle.std.specs.Prelude.{◌≡◌, Bool, false, not, List, eqb, get_or}
-use Rattle.std.proofs.Math.Path.{refl, ap}
-use Rattle.std.proofs.Common.{sym, ap₂, ◌∙◌}
-use Prim.Native.Nat.{ℕ, zero, suc, ◌+◌, ◌≤◌, ◌<◌}
+use Rattle.std.specs.Prelude.{List}
+use Prim.Native.Nat.{ℕ, ◌≤◌, ◌<◌}
 use native.Mathlib.Omega.{arith}
-use Rattle.lists.specs.Pick.{pick, both}
-use Rattle.lists.specs.Search.{lowest, any_same, lowest_same}
-use Rattle.lists.specs.Tabulate.{at}
 use Rattle.numbers.specs.declared.Layout.{Layout}
 use Rattle.numbers.specs.declared.Shape.{Shape}
-use Rattle.numbers.specs.Layouts.{Valid, width, contents}
+use Rattle.numbers.specs.Layouts.{width}
 use Rattle.place.specs.PlaceLaws.{place_in}
-use Rattle.homes.specs.declared.Record.{Record}
-use Rattle.homes.specs.Listed.{listed}
-use Rattle.homes.specs.Homes.{free, move, homes}
-use Rattle.homes.specs.Records.{entry, failed, Good}
-use Rattle.homes.specs.Missing.{target_at, home, missing}
-use Rattle.homes.specs.MissingLaws.{units_apart}
-use Rattle.homes.specs.Standing.{InTile, TargetsAre, Units, Standing, HomesAre, MissingAre}
+use Rattle.homes.specs.Missing.{target_at}
+use Rattle.homes.specs.Standing.{InTile}
 
 -- ---- the arrays of a layout's group
 
