@@ -127,7 +127,8 @@ module _ (n k : ℕ) (miss : ℕ → Bool) (s : Solvable n k miss) (one : length
       (λ (t : miss j ≡ false).
       pick-false (miss j) _ _ t
       ∙ ap₂ ◌⊕◌ (ap₂ mul first_weight (ap (λ (i : ℕ). coef i j) alone ∙ coef-row j (le_trans h s.data_max)))
-      (ap₂ ◌⊕◌ (ap (λ (w : ℕ). mul w (coef (get_or (there n k miss) 1 0) j)) (other-weight 1 (lit≤ tt))) (ap (λ (w : ℕ). mul w (coef (get_or (there n k miss) 2 0) j)) (other-weight 2 (lit≤ tt))))
+      (ap₂ ◌⊕◌ (ap (λ (w : ℕ). mul w (coef (get_or (there n k miss) 1 0) j)) (other-weight 1 (lit≤ tt)))
+      (ap (λ (w : ℕ). mul w (coef (get_or (there n k miss) 2 0) j)) (other-weight 2 (lit≤ tt))))
       ∙ only (coef (get_or (there n k miss) 1 0) j) (coef (get_or (there n k miss) 2 0) j))
       (either_way (miss j))
     where

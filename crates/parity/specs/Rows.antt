@@ -171,7 +171,8 @@ module _ (n k : ℕ) (miss : ℕ → Bool) (few : length (lost n miss) ≤ 3) (o
       ∙ sum3-sum n (λ r j. mul (coef i (get_or (lost n miss) r 0)) (mul (pick (ltb r (length (lost n miss))) (data_row n k miss r j) 0) (old (slot n k miss j)))))
       ∙ sym (sum-add n _ _)
       ∙ sum_cong n _ _ (λ j h. gather (pick (miss j) 0 (coef i j)) (coef i (get_or (lost n miss) 0 0)) (coef i (get_or (lost n miss) 1 0)) (coef i (get_or (lost n miss) 2 0))
-      (pick (ltb 0 (length (lost n miss))) (data_row n k miss 0 j) 0) (pick (ltb 1 (length (lost n miss))) (data_row n k miss 1 j) 0) (pick (ltb 2 (length (lost n miss))) (data_row n k miss 2 j) 0) (old (slot n k miss j)))
+      (pick (ltb 0 (length (lost n miss))) (data_row n k miss 0 j) 0) (pick (ltb 1 (length (lost n miss))) (data_row n k miss 1 j) 0)
+      (pick (ltb 2 (length (lost n miss))) (data_row n k miss 2 j) 0) (old (slot n k miss j)))
 
   -- ---- a missing unit is the sum over the slots
 

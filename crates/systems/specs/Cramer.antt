@@ -51,27 +51,36 @@ hi_else = three (λ (r : ℕ). (r ≡ 2 → ⊥) → 2 ≡ hi r) (λ n. refl) (�
 
 -- the rule written out, for each unknown and for each equation: `simp` multiplies out, and what occurs twice goes
 module _ (a b c d e f g h i x y z : ℕ) where
-  left0 : mul (mul e i ⊕ mul f h) (mul a x ⊕ (mul b y ⊕ mul c z)) ⊕ (mul (mul b i ⊕ mul c h) (mul d x ⊕ (mul e y ⊕ mul f z)) ⊕ mul (mul b f ⊕ mul c e) (mul g x ⊕ (mul h y ⊕ mul i z)))
+  left0 : mul (mul e i ⊕ mul f h) (mul a x ⊕ (mul b y ⊕ mul c z))
+      ⊕ (mul (mul b i ⊕ mul c h) (mul d x ⊕ (mul e y ⊕ mul f z)) ⊕ mul (mul b f ⊕ mul c e) (mul g x ⊕ (mul h y ⊕ mul i z)))
       ≡ mul (mul a (mul e i ⊕ mul f h) ⊕ (mul b (mul d i ⊕ mul f g) ⊕ mul c (mul d h ⊕ mul e g))) x
   left0 = simp ring
 
-  left1 : mul (mul d i ⊕ mul f g) (mul a x ⊕ (mul b y ⊕ mul c z)) ⊕ (mul (mul a i ⊕ mul c g) (mul d x ⊕ (mul e y ⊕ mul f z)) ⊕ mul (mul a f ⊕ mul c d) (mul g x ⊕ (mul h y ⊕ mul i z)))
+  left1 : mul (mul d i ⊕ mul f g) (mul a x ⊕ (mul b y ⊕ mul c z))
+      ⊕ (mul (mul a i ⊕ mul c g) (mul d x ⊕ (mul e y ⊕ mul f z)) ⊕ mul (mul a f ⊕ mul c d) (mul g x ⊕ (mul h y ⊕ mul i z)))
       ≡ mul (mul a (mul e i ⊕ mul f h) ⊕ (mul b (mul d i ⊕ mul f g) ⊕ mul c (mul d h ⊕ mul e g))) y
   left1 = simp ring
 
-  left2 : mul (mul d h ⊕ mul e g) (mul a x ⊕ (mul b y ⊕ mul c z)) ⊕ (mul (mul a h ⊕ mul b g) (mul d x ⊕ (mul e y ⊕ mul f z)) ⊕ mul (mul a e ⊕ mul b d) (mul g x ⊕ (mul h y ⊕ mul i z)))
+  left2 : mul (mul d h ⊕ mul e g) (mul a x ⊕ (mul b y ⊕ mul c z))
+      ⊕ (mul (mul a h ⊕ mul b g) (mul d x ⊕ (mul e y ⊕ mul f z)) ⊕ mul (mul a e ⊕ mul b d) (mul g x ⊕ (mul h y ⊕ mul i z)))
       ≡ mul (mul a (mul e i ⊕ mul f h) ⊕ (mul b (mul d i ⊕ mul f g) ⊕ mul c (mul d h ⊕ mul e g))) z
   left2 = simp ring
 
-  right0 : mul a (mul (mul e i ⊕ mul f h) x ⊕ (mul (mul b i ⊕ mul c h) y ⊕ mul (mul b f ⊕ mul c e) z)) ⊕ (mul b (mul (mul d i ⊕ mul f g) x ⊕ (mul (mul a i ⊕ mul c g) y ⊕ mul (mul a f ⊕ mul c d) z)) ⊕ mul c (mul (mul d h ⊕ mul e g) x ⊕ (mul (mul a h ⊕ mul b g) y ⊕ mul (mul a e ⊕ mul b d) z)))
+  right0 : mul a (mul (mul e i ⊕ mul f h) x ⊕ (mul (mul b i ⊕ mul c h) y ⊕ mul (mul b f ⊕ mul c e) z))
+      ⊕ (mul b (mul (mul d i ⊕ mul f g) x ⊕ (mul (mul a i ⊕ mul c g) y ⊕ mul (mul a f ⊕ mul c d) z))
+      ⊕ mul c (mul (mul d h ⊕ mul e g) x ⊕ (mul (mul a h ⊕ mul b g) y ⊕ mul (mul a e ⊕ mul b d) z)))
       ≡ mul (mul a (mul e i ⊕ mul f h) ⊕ (mul b (mul d i ⊕ mul f g) ⊕ mul c (mul d h ⊕ mul e g))) x
   right0 = simp ring
 
-  right1 : mul d (mul (mul e i ⊕ mul f h) x ⊕ (mul (mul b i ⊕ mul c h) y ⊕ mul (mul b f ⊕ mul c e) z)) ⊕ (mul e (mul (mul d i ⊕ mul f g) x ⊕ (mul (mul a i ⊕ mul c g) y ⊕ mul (mul a f ⊕ mul c d) z)) ⊕ mul f (mul (mul d h ⊕ mul e g) x ⊕ (mul (mul a h ⊕ mul b g) y ⊕ mul (mul a e ⊕ mul b d) z)))
+  right1 : mul d (mul (mul e i ⊕ mul f h) x ⊕ (mul (mul b i ⊕ mul c h) y ⊕ mul (mul b f ⊕ mul c e) z))
+      ⊕ (mul e (mul (mul d i ⊕ mul f g) x ⊕ (mul (mul a i ⊕ mul c g) y ⊕ mul (mul a f ⊕ mul c d) z))
+      ⊕ mul f (mul (mul d h ⊕ mul e g) x ⊕ (mul (mul a h ⊕ mul b g) y ⊕ mul (mul a e ⊕ mul b d) z)))
       ≡ mul (mul a (mul e i ⊕ mul f h) ⊕ (mul b (mul d i ⊕ mul f g) ⊕ mul c (mul d h ⊕ mul e g))) y
   right1 = simp ring
 
-  right2 : mul g (mul (mul e i ⊕ mul f h) x ⊕ (mul (mul b i ⊕ mul c h) y ⊕ mul (mul b f ⊕ mul c e) z)) ⊕ (mul h (mul (mul d i ⊕ mul f g) x ⊕ (mul (mul a i ⊕ mul c g) y ⊕ mul (mul a f ⊕ mul c d) z)) ⊕ mul i (mul (mul d h ⊕ mul e g) x ⊕ (mul (mul a h ⊕ mul b g) y ⊕ mul (mul a e ⊕ mul b d) z)))
+  right2 : mul g (mul (mul e i ⊕ mul f h) x ⊕ (mul (mul b i ⊕ mul c h) y ⊕ mul (mul b f ⊕ mul c e) z))
+      ⊕ (mul h (mul (mul d i ⊕ mul f g) x ⊕ (mul (mul a i ⊕ mul c g) y ⊕ mul (mul a f ⊕ mul c d) z))
+      ⊕ mul i (mul (mul d h ⊕ mul e g) x ⊕ (mul (mul a h ⊕ mul b g) y ⊕ mul (mul a e ⊕ mul b d) z)))
       ≡ mul (mul a (mul e i ⊕ mul f h) ⊕ (mul b (mul d i ⊕ mul f g) ⊕ mul c (mul d h ⊕ mul e g))) z
   right2 = simp ring
 

@@ -35,7 +35,12 @@ combine_in-requires c = let a = c.args in
     let g = unit_end (a.n + l.i) (a.n + a.k) a.unit (omega arith) in (
       p.0,
       omega arith,
-      data_apart a.n a.unit p.2 a.buf.now l.i c.starts_of-starts.result c.row-coefs.result (record { starts_at = λ j h. c.starts_of-starts.ensures j h ∙ ap (◌* a.unit) (data_unit_at j (le_trans h c.requires.0)); coefs_are = λ j h. c.row-coefs.ensures j (le_trans h c.requires.0) }) a.k l.at (length l.buf) c.loop-i-test.true l.invariant.1 (w ∙ p.3),
+      data_apart a.n a.unit p.2 a.buf.now l.i c.starts_of-starts.result c.row-coefs.result
+          (record {
+            starts_at = λ j h. c.starts_of-starts.ensures j h ∙ ap (◌* a.unit) (data_unit_at j (le_trans h c.requires.0));
+            coefs_are = λ j h. c.row-coefs.ensures j (le_trans h c.requires.0);
+          })
+          a.k l.at (length l.buf) c.loop-i-test.true l.invariant.1 (w ∙ p.3),
     )
 
 pub overflow_add-at : goal.overflow_add-at
@@ -57,7 +62,12 @@ loop-i-preserved c = let a = c.args in
       omega arith,
       ap (◌+ a.unit) l.invariant.1 ∙ sym (next_parity a.n l.i a.unit),
       omega arith,
-      encode_turn a.n a.unit p.2 a.buf.now l.i c.starts_of-starts.result c.row-coefs.result (record { starts_at = λ j h. c.starts_of-starts.ensures j h ∙ ap (◌* a.unit) (data_unit_at j (le_trans h c.requires.0)); coefs_are = λ j h. c.row-coefs.ensures j (le_trans h c.requires.0) }) l.at (l.at + a.unit) l.invariant.1 refl l.invariant.2 l.invariant.3 c.combine_in.ensures,
+      encode_turn a.n a.unit p.2 a.buf.now l.i c.starts_of-starts.result c.row-coefs.result
+          (record {
+            starts_at = λ j h. c.starts_of-starts.ensures j h ∙ ap (◌* a.unit) (data_unit_at j (le_trans h c.requires.0));
+            coefs_are = λ j h. c.row-coefs.ensures j (le_trans h c.requires.0);
+          })
+          l.at (l.at + a.unit) l.invariant.1 refl l.invariant.2 l.invariant.3 c.combine_in.ensures,
     )
 
 pub shape_of-buf : goal.shape_of-buf

@@ -16,25 +16,41 @@ pub system-requires : goal.system-requires
 system-requires c = let a = c.args in (is_lt a.n a.k (flag a.miss) c.requires.1 c.present_parity-there.ensures, ks_lt a.n a.k (flag a.miss) c.requires.1 c.missing_below-lost.ensures)
 
 pub lost_rows-lines-requires : goal.lost_rows-lines-requires
-lost_rows-lines-requires c = let a = c.args in (c.requires.0, c.requires.1.data_max, lost_most a.n a.k (flag a.miss) c.requires.1, is_lt a.n a.k (flag a.miss) c.requires.1 c.present_parity-there.ensures)
+lost_rows-lines-requires c = let a = c.args in
+    (c.requires.0, c.requires.1.data_max, lost_most a.n a.k (flag a.miss) c.requires.1, is_lt a.n a.k (flag a.miss) c.requires.1 c.present_parity-there.ensures)
 
 pub unit_row-requires : goal.unit_row-requires
 unit_row-requires c = let a = c.args in
     let m = flag a.miss in
-    let s = c.requires.1 in
-    (c.requires.0, s.data_max, lit< tt, ks_lt a.n a.k m s c.missing_below-lost.ensures, parity_unit a.n a.k m s c.missing_below-gone.ensures c.missing_below-lost.ensures 0 (lit< tt))
+    let s = c.requires.1 in (
+      c.requires.0,
+      s.data_max,
+      lit< tt,
+      ks_lt a.n a.k m s c.missing_below-lost.ensures,
+      parity_unit a.n a.k m s c.missing_below-gone.ensures c.missing_below-lost.ensures 0 (lit< tt),
+    )
 
 pub unit_row-requires-2 : goal.unit_row-requires-2
 unit_row-requires-2 c = let a = c.args in
     let m = flag a.miss in
-    let s = c.requires.1 in
-    (c.requires.0, s.data_max, lit< tt, ks_lt a.n a.k m s c.missing_below-lost.ensures, parity_unit a.n a.k m s c.missing_below-gone.ensures c.missing_below-lost.ensures 1 (lit< tt))
+    let s = c.requires.1 in (
+      c.requires.0,
+      s.data_max,
+      lit< tt,
+      ks_lt a.n a.k m s c.missing_below-lost.ensures,
+      parity_unit a.n a.k m s c.missing_below-gone.ensures c.missing_below-lost.ensures 1 (lit< tt),
+    )
 
 pub unit_row-requires-3 : goal.unit_row-requires-3
 unit_row-requires-3 c = let a = c.args in
     let m = flag a.miss in
-    let s = c.requires.1 in
-    (c.requires.0, s.data_max, lit< tt, ks_lt a.n a.k m s c.missing_below-lost.ensures, parity_unit a.n a.k m s c.missing_below-gone.ensures c.missing_below-lost.ensures 2 (lit< tt))
+    let s = c.requires.1 in (
+      c.requires.0,
+      s.data_max,
+      lit< tt,
+      ks_lt a.n a.k m s c.missing_below-lost.ensures,
+      parity_unit a.n a.k m s c.missing_below-gone.ensures c.missing_below-lost.ensures 2 (lit< tt),
+    )
 
 pub returns : goal.returns
 returns c = let a = c.args in
