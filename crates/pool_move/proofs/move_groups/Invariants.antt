@@ -1,0 +1,15 @@
+use mathlib.Core.Path.{refl, sym, ◌∙◌}
+use Prim.Native.Nat.{◌-◌, ◌≤◌, ◌<◌}
+use native.Mathlib.Omega.{arith}
+use Rattle.numbers.specs.Layouts.{all_groups}
+use Rattle.survey.specs.Surveyed.{Surveying}
+use Rattle.moving.specs.Moving.{shown_file}
+use Rattle.moving.specs.FreshLaws.{unfailed-good}
+use Rattle.pool_move.specs.Turns.{SameShape, same_shape, ready, fresh_group, MovedBelow, moves_begin, moves_turn, moves_end}
+use Rattle.pool_move.proofs.move_groups.Given as goal
+
+abbrev pub invariant-loop-g : goal.invariant-loop-g
+invariant-loop-g l = (l.g ≤ all_groups l.y) × Surveying l.y l.here × Surveying l.z l.there × MovedBelow l.z (shown_file l.y l.r l.old) l.initial.new l.g l.new
+
+abbrev pub decreases-loop-g : goal.decreases-loop-g
+decreases-loop-g l = l.groups - l.g
