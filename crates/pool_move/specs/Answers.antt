@@ -13,7 +13,8 @@ use Rattle.pool.specs.Refusals.{repair_refusal}
 use Rattle.pool.specs.Asked.{Sound}
 use Rattle.moving.specs.Fresh.{fresh_image}
 use Rattle.moving.specs.Moving.{shown_file, move_refusal, Moves}
-use Rattle.moving.specs.MoveLaws.{move-asked, move-refused, move_accepted}
+use Rattle.moving.specs.MoveLaws.{move-refused}
+use Rattle.moving.proofs.MoveLaws.{move-asked, move_accepted}
 
 -- the second test of the length says nothing more
 twice : (a b c d : Bool) → refusal_by ((a, 1) ∷ (b, 2) ∷ (c, 3) ∷ (d, 3) ∷ []) ≡ refusal_by ((a, 1) ∷ (b, 2) ∷ (b, 2) ∷ (c, 3) ∷ (d, 3) ∷ [])

@@ -16,9 +16,9 @@ use Rattle.pool.specs.Repairing.{mended}
 use Rattle.pool.specs.Asked.{Sound, pool_first}
 use Rattle.proposal.specs.Plans.{entry_size, entries, plan_good, Accepts}
 use Rattle.proposal.specs.Running.{plan_tests, plan_refusal, planned_image, plan_record, plan_count}
-use Rattle.proposal.specs.RunningLaws.{plan_asked}
-use Rattle.proposal.specs.Accepted.{accepts_count}
-use Rattle.proposal.specs.PlanHolds.{plan_refused_unchanged, plan_accepted}
+use Rattle.proposal.proofs.RunningLaws.{plan_asked}
+use Rattle.proposal.proofs.AcceptedLaws.{accepts_count}
+use Rattle.proposal.proofs.PlanHolds.{plan_refused_unchanged, plan_accepted}
 use Rattle.proposal.specs.Drawing.{drawn_length, drawn_plan, draw_tests, draw_refusal, draw_count, draw_out}
 use Rattle.proposal.specs.Calls.{RepairsBy, Draws}
 

@@ -9,7 +9,7 @@ use Rattle.homes.specs.declared.Record.{Record}
 use Rattle.homes.specs.Records.{failed}
 use Rattle.homes.specs.Dropping.{without}
 use Rattle.swapping.specs.Swapping.{swap_tests, swap_refusal, swapped_image, Swaps}
-use Rattle.swapping.specs.SwapLaws.{swap_accepted, swap_refused_unchanged, swap_record_lem}
+use Rattle.swapping.proofs.SwapLaws.{swap_accepted, swap_refused_unchanged, swap_record_lem}
 
 module _ (y : Layout) (R : Record) (target : ℕ) where
   pub swap_outside : y.p ≤ target → 4 ≡ refusal_by (swap_tests y R target)

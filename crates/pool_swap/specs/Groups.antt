@@ -28,7 +28,8 @@ use Rattle.survey.specs.Placing.{start_of, content_here, placed}
 use Rattle.survey.specs.ByGroups.{stored_below, below_begin, below_end, below_yet, below_turn}
 use Rattle.group_swap.specs.Taken.{start_moves, units_moved, Movable}
 use Rattle.swapping.specs.Swapping.{swapped_image, home_moves}
-use Rattle.swapping.specs.SwapLaws.{SwapAsked, less_few, few-move, moves_enough}
+use Rattle.swapping.specs.SwapLaws.{SwapAsked, less_few, few-move}
+use Rattle.swapping.proofs.SwapLaws.{moves_enough}
 
 -- the contents of the groups below g have moved
 unfoldable pub swapped_below : Layout → Record → ℕ → List ℕ → ℕ → List ℕ

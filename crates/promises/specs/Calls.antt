@@ -23,7 +23,7 @@ use Rattle.pool.specs.ScribbleHolds.{scribble_any}
 use Rattle.pool.specs.Changes.{Written, Mended}
 use Rattle.pool.specs.Calls.{Reads, Writes, Fails, Repairs, Prepares, Shows, Panels, Audits}
 use Rattle.proposal.specs.Calls.{RepairsBy}
-use Rattle.proposal.specs.RunningLaws.{plan_count_lem}
+use Rattle.proposal.proofs.RunningLaws.{plan_count_lem}
 use Rattle.swapping.specs.Swapping.{NewHome, Swaps}
 use Rattle.pool_list.specs.Ranges.{laid_ranges, WritesList}
 use Rattle.pool_list.specs.Kept.{WrittenByOne}

@@ -22,10 +22,10 @@ use Rattle.pool.specs.LookHolds.{look_right}
 use Rattle.pool.specs.Changes.{Written, Mended}
 use Rattle.pool.proofs.ChangesLaws.{write_changes, repair_changes}
 use Rattle.proposal.specs.Running.{plan_refusal, plan_image, plan_record}
-use Rattle.proposal.specs.RunningLaws.{plan_image_lem, plan_record_lem}
-use Rattle.proposal.specs.PlanHolds.{plan_changes}
+use Rattle.proposal.proofs.RunningLaws.{plan_image_lem, plan_record_lem}
+use Rattle.proposal.proofs.PlanHolds.{plan_changes}
 use Rattle.swapping.specs.Swapping.{swap_image, NewHome}
-use Rattle.swapping.specs.SwapLaws.{swap_changes}
+use Rattle.swapping.proofs.SwapLaws.{swap_changes}
 use Rattle.pool_list.specs.Ranges.{list_image}
 use Rattle.pool_list.specs.Kept.{WrittenByOne, list_changes}
 use Rattle.promises.specs.Runs.{Event, State, start, run, laid_on}

@@ -29,6 +29,7 @@ use Rattle.moving.specs.Fresh.{unfailed, fresh_image, Clean}
 use Rattle.moving.specs.Moving.{shown_file, move_refusal, move_image, Moves}
 use Rattle.moving.specs.FreshLaws as F
 use Rattle.moving.specs.MoveLaws as M
+use Rattle.moving.proofs.MoveLaws as MProofs
 use Rattle.promises.specs.Tight.{same}
 use Rattle.promises.specs.Counts.{recounted}
 use Rattle.promises.specs.Runs.{Event, State, start, run, laid_on}
@@ -46,7 +47,7 @@ module _ (y : Layout) (R : Record) (img : List ℕ) (room n : ℕ) (new : List �
       ∷ (leb R.waiting (all_groups y * contents y), 3) ∷ []
 
   pub move-lowest : LowestThatApplies move_table n
-  move-lowest = subst⁻¹ (LowestThatApplies move_table) p.answer (M.move-lowest y R (length img) room)
+  move-lowest = subst⁻¹ (LowestThatApplies move_table) p.answer (MProofs.move-lowest y R (length img) room)
 
   -- "a refusal leaves it zero", over its whole length
   pub move-refused : (n ≡ 0 → ⊥) → new ≡ zeros room
@@ -54,11 +55,11 @@ module _ (y : Layout) (R : Record) (img : List ℕ) (room n : ℕ) (new : List �
 
   -- what an accepted move was given
   pub move_given : n ≡ 0 → Sound y R (length img) × (room ≡ image_length y)
-  move_given z = M.move-asked y R (length img) room (sym p.answer ∙ z)
+  move_given z = MProofs.move-asked y R (length img) room (sym p.answer ∙ z)
 
   -- and that it is accepted where it is given that
   pub move_accepts : Sound y R (length img) → room ≡ image_length y → n ≡ 0
-  move_accepts s e = p.answer ∙ M.move_granted y R (length img) room s e
+  move_accepts s e = p.answer ∙ MProofs.move_granted y R (length img) room s e
 
   -- ---- an accepted move, of any old image whatsoever: failures, repaired or not, and units of a group that disagree
 
@@ -70,7 +71,7 @@ module _ (y : Layout) (R : Record) (img : List ℕ) (room n : ℕ) (new : List �
     sound = (move_given z).0
 
     is : new ≡ fresh_image (other_edition y) (shown_file y R img)
-    is = p.image ∙ M.move_accepted y R img room granted
+    is = p.image ∙ MProofs.move_accepted y R img room granted
 
     -- every byte of the new image: a content, at its own place, is what encoding afresh the file that reads of the old pool show puts there,
     pub move_encodes : (g o c : ℕ) → g < all_groups y → o < y.u → c < contents y
@@ -89,7 +90,7 @@ module _ (y : Layout) (R : Record) (img : List ℕ) (room n : ℕ) (new : List �
 
     -- so it has the parity of its own data
     pub move_clean : Clean (other_edition y) new
-    move_clean = subst⁻¹ (Clean (other_edition y)) p.image (M.new_clean y R img room granted [])
+    move_clean = subst⁻¹ (Clean (other_edition y)) p.image (MProofs.new_clean y R img room granted [])
 
     -- "Reads agree over the whole capacity": a read of the new pool, under an empty list, and the same read of the old one answer and show the same,
     -- accepted or refused
@@ -97,8 +98,8 @@ module _ (y : Layout) (R : Record) (img : List ℕ) (room n : ℕ) (new : List �
         → Reads y R img offset size m' out' → (m ≡ m') × (out ≡ out')
     move_reads_agree entries offset size m m' out out' a b =
         let a' = subst (λ (l : List ℕ). Reads (other_edition y) (unfailed entries) l offset size m out) p.image a in (
-          a'.answer ∙ M.numbers_agree y R img room granted entries offset size ∙ sym b.answer,
-          a'.bytes ∙ M.reads_agree y R img room granted entries offset size ∙ sym b.bytes,
+          a'.answer ∙ MProofs.numbers_agree y R img room granted entries offset size ∙ sym b.answer,
+          a'.bytes ∙ MProofs.reads_agree y R img room granted entries offset size ∙ sym b.bytes,
         )
 
     -- that of the whole file is accepted by both
@@ -119,9 +120,9 @@ pub there_and_back : (y : Layout) → Valid y → (img : List ℕ) → Clean y i
     → (n ≡ 0) × (n' ≡ 0) × (back ≡ img)
 there_and_back y v img k entries entries' room room' e e' n n' new back p q =
     let q' = subst (λ (l : List ℕ). Moves (other_edition y) (unfailed entries') l room' n' back) p.image q in (
-      p.answer ∙ M.clean_accepted y v img k entries room e,
-      q'.answer ∙ M.back_accepted y v img k entries room e entries' room' e',
-      q'.image ∙ M.there_and_back y v img k entries room e entries' room' e',
+      p.answer ∙ MProofs.clean_accepted y v img k entries room e,
+      q'.answer ∙ MProofs.back_accepted y v img k entries room e entries' room' e',
+      q'.image ∙ MProofs.there_and_back y v img k entries room e entries' room' e',
     )
 
 -- ---- from a pool that demand 3 can reach: after any run of calls that keep their promises, from zeros and an empty list
@@ -145,7 +146,7 @@ module _ (y : Layout) (valid : Valid y) (room : List ℕ) (three : length room �
         kept = record { room = three'; good = F.unfailed-good (other_edition y) entries };
         holds =
             subst⁻¹ (λ (l : List ℕ). Holds (other_edition y) (unfailed entries) l s.file) p.image
-            (M.move_holds y s.rec s.img lent (sym p.answer ∙ moved_accepted) entries s.file inside.holds);
+            (MProofs.move_holds y s.rec s.img lent (sym p.answer ∙ moved_accepted) entries s.file inside.holds);
         counted = sym (unfailed_clear (other_edition y) (unfailed entries) refl);
       }
 
@@ -189,12 +190,12 @@ module _ (y : Layout) (valid : Valid y) (room : List ℕ) (three : length room �
 pub move_independent : (y : Layout) (R : Record) (img img' : List ℕ) → AgreeElsewhere y R img img' → (room : ℕ)
     → (move_refusal y R (length img) room ≡ move_refusal y R (length img') room) × (move_image y R img room ≡ move_image y R img' room)
 move_independent y R img img' agree room =
-    let a = agree_of y R img img' agree in (M.move-number_blind y R img img' a room, M.move_blind y R img img' a room)
+    let a = agree_of y R img img' agree in (MProofs.move-number_blind y R img img' a room, MProofs.move_blind y R img img' a room)
 
 -- nor a record's entries from k on,
 pub move_unread : (y : Layout) (R R' : Record) → Alike R R' → (img : List ℕ) (room : ℕ)
     → (move_refusal y R (length img) room ≡ move_refusal y R' (length img) room) × (move_image y R img room ≡ move_image y R' img room)
-move_unread y R R' alike img room = (M.move-number_unread y R R' alike room (length img), M.move_unread y R R' alike room img)
+move_unread y R R' alike img room = (MProofs.move-number_unread y R R' alike room (length img), MProofs.move_unread y R R' alike room img)
 
 -- nor, but for number 3, its count (order 6); both counts are within the bound
 module _ (y : Layout) (R : Record) (n : ℕ) (fits : R.waiting ≤ all_contents y) (fits' : n ≤ all_contents y) where

@@ -41,11 +41,13 @@ use Rattle.proposal.specs.Pairs.{missing_pair}
 use Rattle.proposal.specs.Running.{plan_tests, plan_refusal, unused, planned_byte, plan_image, plan_record, plan_count}
 use Rattle.proposal.specs.Drawing.{group_drawn, content_drawn, entry_number, drawn_length, drawn_plan, draw_refusal, draw_count, draw_out}
 use Rattle.proposal.specs.Calls.{RepairsBy, ChecksPlan, Draws}
-use Rattle.proposal.specs.Accepted.{plan_accepts, accepts_good, accepts_count}
+use Rattle.proposal.proofs.AcceptedLaws.{plan_accepts, accepts_good, accepts_count}
 use Rattle.proposal.specs.RunningLaws as L
+use Rattle.proposal.proofs.RunningLaws as LProofs
 use Rattle.proposal.specs.DrawingLaws as D
-use Rattle.proposal.specs.PlanHolds as H
-use Rattle.proposal.specs.PlanUnread as U
+use Rattle.proposal.proofs.DrawingLaws as DProofs
+use Rattle.proposal.proofs.PlanHolds as H
+use Rattle.proposal.proofs.PlanUnread as U
 use Rattle.promises.specs.Refusals.{pool_table}
 use Rattle.promises.specs.Counts.{recounted, tests_same}
 use Rattle.promises.specs.Tight.{same}
@@ -62,7 +64,7 @@ module _ (y : Layout) (R : Record) (img plan : List ℕ) where
 
   -- "accepts a plan exactly if": the facts of an accepted one,
   pub check_accepts : ChecksPlan y R img plan 0 → Sound y R (length img) × Accepts y R plan
-  check_accepts p = let a = L.plan_asked y R (length img) plan (sym p.answer) in (a.sound, a.accepts)
+  check_accepts p = let a = LProofs.plan_asked y R (length img) plan (sym p.answer) in (a.sound, a.accepts)
 
   -- and where they hold it is accepted,
   pub accepts_checked : Sound y R (length img) → Accepts y R plan → (n : ℕ) → ChecksPlan y R img plan n → n ≡ 0
@@ -141,7 +143,7 @@ module _ (y : Layout) (R : Record) (img plan : List ℕ) where
       z = sym p.answer
 
       k : Accepts y R plan
-      k = (L.plan_asked y R (length img) plan z).accepts
+      k = (LProofs.plan_asked y R (length img) plan z).accepts
 
       at-new-home : (i o : ℕ) → i < entries y plan → o < y.u
           → at (plan_image y R plan img) (spot y (group_named y plan i) (home y R R.k (group_named y plan i) (content_named y plan i)) o)
@@ -161,7 +163,7 @@ pub record FromSources (y : Layout) (plan : List ℕ) (i : ℕ) (old : ℕ → �
 module _ (y : Layout) (R : Record) (img plan : List ℕ) (count' : ℕ) (R' : Record) (img' : List ℕ) (p : RepairsBy y R img plan 0 count' R' img') (i o : ℕ)
     (in_plan : i < entries y plan) (in-unit : o < y.u) where
   asked : L.PlanAsked y R (length img) plan
-  asked = L.plan_asked y R (length img) plan (sym p.answer)
+  asked = LProofs.plan_asked y R (length img) plan (sym p.answer)
 
   s : Solvable y.n y.k (unused y plan i)
   s = L.plan_solvable y R plan asked.accepts asked.sound.valid i in_plan
@@ -227,7 +229,7 @@ pub reads_its_sources_alone : (y : Layout) (R : Record) (plan img img₂ : List 
     → at img' (spot y (group_named y plan i) (home y R R.k (group_named y plan i) (content_named y plan i)) o)
     ≡ at img₂' (spot y (group_named y plan i) (home y R R.k (group_named y plan i) (content_named y plan i)) o)
 reads_its_sources_alone y R plan img img₂ count count₂ R' R₂' img' img₂' p q i o hi ho agree =
-    let a = L.plan_asked y R (length img) plan (sym p.answer) in
+    let a = LProofs.plan_asked y R (length img) plan (sym p.answer) in
     (repair_by_ran y R img plan count R' img' p).byte_is i o hi ho
     ∙ rebuilt_cong y.n y.k (unused y plan i) (L.plan_solvable y R plan a.accepts a.sound.valid i hi) _ _
     (λ u b t. let w = L.used-source y R plan a.accepts i u hi t in
@@ -242,10 +244,10 @@ pub drawn_repairs : (y : Layout) (R : Record) (img : List ℕ) (n count : ℕ) (
     → Repairs y R img n count R' img'
 drawn_repairs y R img n count R' img' p =
     record {
-      answer = p.answer ∙ D.drawn_refusal y R (length img);
-      pairs = p.pairs ∙ D.drawn_count y R (length img);
-      rec = p.rec ∙ D.drawn_record y R (length img);
-      image = p.image ∙ D.drawn_image y R img;
+      answer = p.answer ∙ DProofs.drawn_refusal y R (length img);
+      pairs = p.pairs ∙ DProofs.drawn_count y R (length img);
+      rec = p.rec ∙ DProofs.drawn_record y R (length img);
+      image = p.image ∙ DProofs.drawn_image y R img;
     }
 
 module _ (y : Layout) (R : Record) (img buf : List ℕ) (n count : ℕ) (buf' : List ℕ) (p : Draws y R img buf n count buf') where
@@ -268,17 +270,17 @@ module _ (y : Layout) (R : Record) (img buf : List ℕ) (n count : ℕ) (buf' : 
   unfolding draw_count
   draw_plan_wrote z =
       let yes : draw_refusal y R (length img) (length buf) ≡ 0 = sym p.answer ∙ z in
-      (p.written ∙ grant_yes _ (drawn_length y R) 0 yes, (λ i. take (p.written i) (p.numbers i)) ∙ D.draw_wrote y R (length img) buf yes)
+      (p.written ∙ grant_yes _ (drawn_length y R) 0 yes, (λ i. take (p.written i) (p.numbers i)) ∙ DProofs.draw_wrote y R (length img) buf yes)
 
   pub draw_plan_rest_stays : (x : ℕ) → count ≤ x → at buf' x ≡ at buf x
   draw_plan_rest_stays x h =
-      ap (λ (l : List ℕ). at l x) p.numbers ∙ D.draw_rest y R (length img) buf x (subst⁻¹ (λ (m : ℕ). m ≤ x) (sym p.written) h)
+      ap (λ (l : List ℕ). at l x) p.numbers ∙ DProofs.draw_rest y R (length img) buf x (subst⁻¹ (λ (m : ℕ). m ≤ x) (sym p.written) h)
 
   -- "Our planner's plans are always accepted": the plan as it stands in the buffer, on the same pool,
   pub drawn_accepted : n ≡ 0 → (m : ℕ) → ChecksPlan y R img (take count buf') m → m ≡ 0
   drawn_accepted z m q =
-      q.answer ∙ ap (plan_refusal y R (length img)) (draw_plan_wrote z).1 ∙ D.drawn_refusal y R (length img)
-      ∙ D.draw_sound y R (length img) buf (sym p.answer ∙ z)
+      q.answer ∙ ap (plan_refusal y R (length img)) (draw_plan_wrote z).1 ∙ DProofs.drawn_refusal y R (length img)
+      ∙ DProofs.draw_sound y R (length img) buf (sym p.answer ∙ z)
 
   -- and on any pool at all, whatever its bytes, repair by it is plain repair
   pub drawn_as_repair : n ≡ 0 → (m pairs : ℕ) (R' : Record) (img' : List ℕ) → RepairsBy y R img (take count buf') m pairs R' img' → Repairs y R img m pairs R' img'

@@ -24,9 +24,9 @@ use Rattle.pool.proofs.CountLaws.{fail_keeps_true}
 use Rattle.pool.specs.Blind.{Agree}
 use Rattle.pool.proofs.BlindLaws.{write_agree, fail_agree, repair_agree, scribble_agree}
 use Rattle.proposal.specs.Running.{plan_record}
-use Rattle.proposal.specs.PlanHolds.{plan_right, plan_kept, plan_keeps_true, plan_agree}
+use Rattle.proposal.proofs.PlanHolds.{plan_right, plan_kept, plan_keeps_true, plan_agree}
 use Rattle.swapping.specs.Swapping.{swap_record}
-use Rattle.swapping.specs.SwapHolds.{swap_right, swap_kept, swap_keeps_true, swap_agree}
+use Rattle.swapping.proofs.SwapHolds.{swap_right, swap_kept, swap_keeps_true, swap_agree}
 use Rattle.pool_list.specs.Ranges.{list_tests, list_refusal, laid_ranges}
 use Rattle.pool_list.specs.Kept.{list_agree}
 use Rattle.pool_list.specs.Laid.{list_right}

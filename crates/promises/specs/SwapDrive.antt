@@ -33,10 +33,12 @@ use Rattle.pool.specs.Elsewhere.{AgreeElsewhere, agree_of}
 use Rattle.pool.specs.Unread.{Alike}
 use Rattle.swapping.specs.Swapping.{swap_refusal, swap_image, swap_record, NewHome, Swaps}
 use Rattle.swapping.specs.SwapLaws as S
+use Rattle.swapping.proofs.SwapLaws as SProofs
 use Rattle.swapping.specs.SwapLaws.{SwapAsked}
-use Rattle.swapping.specs.SwapHolds as H
-use Rattle.swapping.specs.SwapBack.{Back, back_again}
-use Rattle.swapping.specs.SwapUnread as U
+use Rattle.swapping.proofs.SwapHolds as H
+use Rattle.swapping.specs.SwapBack.{Back}
+use Rattle.swapping.proofs.SwapBackLaws.{back_again}
+use Rattle.swapping.proofs.SwapUnread as U
 use Rattle.promises.specs.Refusals.{pool_table}
 use Rattle.promises.specs.Tight.{same}
 use Rattle.promises.specs.Counts.{recounted, tests_same}
@@ -67,24 +69,24 @@ module _ (y : Layout) (R : Record) (img : List ℕ) (target n : ℕ) (R' : Recor
   swap_table = pool_table y R (length img) ((ltb target y.p, 4) ∷ (failed R target, 11) ∷ (eqb R.q R.k, 16) ∷ [])
 
   pub swap_lowest : LowestThatApplies swap_table n
-  swap_lowest = subst⁻¹ (LowestThatApplies swap_table) p.answer (S.swap_lowest y R (length img) target)
+  swap_lowest = subst⁻¹ (LowestThatApplies swap_table) p.answer (SProofs.swap_lowest y R (length img) target)
 
   -- "any other refused call changes no byte and no record" (demand 1)
   pub swap_refused_unchanged : (n ≡ 0 → ⊥) → (img' ≡ img) × (R' ≡ R)
   swap_refused_unchanged never =
-      let u = S.swap_refused_unchanged y R target img (λ z. never (p.answer ∙ z)) in
+      let u = SProofs.swap_refused_unchanged y R target img (λ z. never (p.answer ∙ z)) in
       (p.image ∙ u.0, p.rec ∙ u.1)
 
   -- accepted exactly if layout, length and record are good, the target is in the list, and q = k
   pub swap_given : n ≡ 0 → SwapAsked y R (length img) target
-  swap_given z = S.swap_asked y R (length img) target (sym p.answer ∙ z)
+  swap_given z = SProofs.swap_asked y R (length img) target (sym p.answer ∙ z)
 
   pub swap_accepts : SwapAsked y R (length img) target → n ≡ 0
-  swap_accepts a = p.answer ∙ S.swap_granted y R (length img) target a
+  swap_accepts a = p.answer ∙ SProofs.swap_granted y R (length img) target a
 
   -- "only bytes of new homes change",
   pub swap_changes_only : (x : ℕ) → x < length img → (at img' x ≡ at img x) ⊎ NewHome y R target x
-  swap_changes_only x h = subst⁻¹ (λ (l : List ℕ). (at l x ≡ at img x) ⊎ NewHome y R target x) p.image (S.swap_changes y R target img x h)
+  swap_changes_only x h = subst⁻¹ (λ (l : List ℕ). (at l x ≡ at img x) ⊎ NewHome y R target x) p.image (SProofs.swap_changes y R target img x h)
 
   -- whatever the answer, the count stays what it is, and a true one true
   pub swap_count_stays : R'.waiting ≡ R.waiting
@@ -106,7 +108,7 @@ module _ (y : Layout) (R : Record) (img : List ℕ) (target n : ℕ) (R' : Recor
     few = S.few-entries y R target asked
 
     rec_is : R' ≡ without R target
-    rec_is = p.rec ∙ S.swap_record_lem y R target img (sym p.answer ∙ z)
+    rec_is = p.rec ∙ SProofs.swap_record_lem y R target img (sym p.answer ∙ z)
 
     shorter : Shorter R target (without R target)
     shorter =
@@ -148,7 +150,7 @@ module _ (y : Layout) (R : Record) (img : List ℕ) (target n : ℕ) (R' : Recor
     -- "Every content's bytes go from its old home to its new one"
     pub swap_moves : (g o c : ℕ) → g < all_groups y → o < y.u → c < contents y → stored y R' img' g o c ≡ stored y R img g o c
     swap_moves g o c hg ho hc =
-        (λ i. stored y (rec_is i) (p.image i) g o c) ∙ S.stored_swapped y R target img (sym p.answer ∙ z) g o c hg ho hc
+        (λ i. stored y (rec_is i) (p.image i) g o c) ∙ SProofs.stored_swapped y R target img (sym p.answer ∙ z) g o c hg ho hc
 
     -- nothing is missing
     pub swap_leaves_none : (g c : ℕ) → c < contents y → missing y R' g c ≡ false
@@ -156,17 +158,17 @@ module _ (y : Layout) (R : Record) (img : List ℕ) (target n : ℕ) (R' : Recor
 
     -- ".. on d and on unused spares too": a new home is on the target, or it is a spare of its group,
     pub swap_where : (x : ℕ) → NewHome y R target x → (target_here y x ≡ target) ⊎ (contents y ≤ (unit_here y x).unit)
-    swap_where = S.new-home_where y R target img asked
+    swap_where = SProofs.new-home_where y R target img asked
 
     -- on the target alone where no other is in the list,
     pub swap_where_alone : R.k ≡ 1 → (x : ℕ) → NewHome y R target x → target_here y x ≡ target
-    swap_where_alone = S.new-home-alone y R target img asked
+    swap_where_alone = SProofs.new-home-alone y R target img asked
 
     -- and no byte of a target that is still failed changes
     pub swap_leaves_failed : (x : ℕ) → x < length img → failed R' (target_here y x) ≡ true → at img' x ≡ at img x
     swap_leaves_failed x h f =
         ap (λ (l : List ℕ). at l x) p.image
-        ∙ S.swap_spares_failed y R target img x h (ap (λ (T : Record). failed T (target_here y x)) (sym rec_is) ∙ f)
+        ∙ SProofs.swap_spares_failed y R target img x h (ap (λ (T : Record). failed T (target_here y x)) (sym rec_is) ∙ f)
 
 pub swap_tight : (y : Layout) (R : Record) (img : List ℕ) (target n n' : ℕ) (T T' : Record) (i i' : List ℕ) → Swaps y R img target n T i → Swaps y R img target n' T' i'
     → (n ≡ n') × (T ≡ T') × (i ≡ i')
@@ -228,7 +230,7 @@ module _ (y : Layout) (valid : Valid y) (room : List ℕ) (three : length room �
     back_at-home = (
       repairs.answer ∙ ap (λ (T : Record). repair_refusal y T (length s.img)) lost_is ∙ repairs_is,
       swaps.answer ∙ again.0,
-      subst⁻¹ (λ (T : Record). Back y s.rec T s.img img₄) (swaps.rec ∙ S.swap_record_lem y R₂ target img₃ again.0)
+      subst⁻¹ (λ (T : Record). Back y s.rec T s.img img₄) (swaps.rec ∙ SProofs.swap_record_lem y R₂ target img₃ again.0)
           (subst⁻¹ (Back y s.rec (without R₂ target) s.img) swaps.image again.1),
     )
 

@@ -7,5 +7,3 @@ pub mod Accepted
 pub mod RunningLaws
 pub mod LowestSources
 pub mod DrawingLaws
-pub mod PlanHolds
-pub mod PlanUnread

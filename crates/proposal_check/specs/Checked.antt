@@ -19,8 +19,9 @@ use Rattle.homes.specs.Missing.{missing}
 use Rattle.pool.specs.Counting.{missing_units}
 use Rattle.proposal.specs.Plans.{entry_size, entries, group_named, content_named, names, plan_good, Named, Accepts}
 use Rattle.proposal.specs.Pairs.{pair_number, missing_pair, missing_pair_lem, pairs_counted, pair_apart}
-use Rattle.proposal.specs.Accepted.{named_below, names-true, names_hold, pair_of, entry_good, EntryFacts, entry_facts, entry-good}
-use Rattle.proposal.specs.Accepted.{accepts_of, facts_of, plan_accepts, accepts_good, as_many, listed-missing, accepts_count}
+use Rattle.proposal.specs.Accepted.{named_below, names-true, names_hold, pair_of, entry_good}
+use Rattle.proposal.proofs.AcceptedLaws.{EntryFacts, entry_facts, entry-good}
+use Rattle.proposal.proofs.AcceptedLaws.{accepts_of, facts_of, plan_accepts, accepts_good, as_many, listed-missing, accepts_count}
 
 -- entry i names what no entry before it names
 unfoldable pub names_anew : Layout → List ℕ → ℕ → Bool

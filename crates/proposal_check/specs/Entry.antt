@@ -19,7 +19,8 @@ use Rattle.homes.specs.Listed.{listed_next, listed, listed_same}
 use Rattle.homes.specs.Missing.{missing}
 use Rattle.homes.proofs.MissingLaws.{few-missing}
 use Rattle.proposal.specs.Plans.{entry_size, group_named, content_named, source, number_of, source_good, sources_good, names_missing}
-use Rattle.proposal.specs.Accepted.{entry_good, entry_facts}
+use Rattle.proposal.specs.Accepted.{entry_good}
+use Rattle.proposal.proofs.AcceptedLaws.{entry_facts}
 use Rattle.proposal_check.specs.Windows.{rank_named, rank_lt}
 
 -- ---- the sources

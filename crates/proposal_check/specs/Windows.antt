@@ -21,7 +21,8 @@ use Rattle.homes.specs.Records.{Good}
 use Rattle.homes.specs.Missing.{missing}
 use Rattle.homes.proofs.MissingLaws.{few-missing}
 use Rattle.proposal.specs.Plans.{entries, group_named, content_named}
-use Rattle.proposal.specs.Accepted.{named_below, names-true, names_hold, entry_good, EntryFacts, entry_facts}
+use Rattle.proposal.specs.Accepted.{named_below, names-true, names_hold, entry_good}
+use Rattle.proposal.proofs.AcceptedLaws.{EntryFacts, entry_facts}
 use Rattle.proposal_check.specs.Checked.{names_anew, entries_good}
 use Rattle.proposal_check.specs.Marks.{weight_of, mark_with, mark_bit, mark_more}
 

@@ -22,7 +22,7 @@ use Rattle.proposal.specs.Plans.{entry_size, number_of}
 use Rattle.proposal.specs.Pairs.{pair_number, missing_pair, missing_pair_lem, pairs_counted}
 use Rattle.proposal.specs.Drawing.{group_drawn, content_drawn, entry_number, drawn_length, drawn_plan}
 use Rattle.proposal.specs.LowestSources.{enough_present}
-use Rattle.proposal.specs.DrawingLaws.{drawn_length_lem, drawn_number, drawn_at, numbers_length}
+use Rattle.proposal.proofs.DrawingLaws.{drawn_length_lem, drawn_number, drawn_at, numbers_length}
 use Rattle.proposal_draw.specs.Entry.{present_by, entry_by, entry_from}
 
 -- number z of the plan

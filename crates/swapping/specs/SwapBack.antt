@@ -31,11 +31,10 @@ use Rattle.pool.specs.FailHolds.{Kept, entry_same, fail_right, fail_kept, fail_l
 use Rattle.pool.proofs.RepairHolds.{repair_right, repair_kept, repair_length}
 use Rattle.pool.proofs.ScribbleHoldsLaws.{scribble_right, scribble_length}
 use Rattle.swapping.specs.Swapping.{swap_refusal, swap_image}
-use Rattle.swapping.specs.SwapLaws.{SwapAsked, swap_granted, swap_record_lem}
-use Rattle.swapping.specs.SwapHolds.{swap_right}
+use Rattle.swapping.specs.SwapLaws.{SwapAsked}
 
 -- an accepted read depends on what the pool holds alone
-reads_same : (y : Layout) (R R' : Record) (img img' file : List ℕ) → Sound y R (length img) → Sound y R' (length img') → Holds y R img file → Holds y R' img' file
+pub reads_same : (y : Layout) (R R' : Record) (img img' file : List ℕ) → Sound y R (length img) → Sound y R' (length img') → Holds y R img file → Holds y R' img' file
     → (offset size : ℕ) → read_out y R img offset size ≡ read_out y R' img' offset size
 unfolding read_out range_refusal
 reads_same y R R' img img' file s s' k k' offset size =
@@ -59,118 +58,3 @@ pub record Back (y : Layout) (R R' : Record) (img img' : List ℕ) : Type 0 wher
   pub home_back : (g c : ℕ) → home y R' R'.q g c ≡ home y R R.q g c
   pub bytes_back : (g o c : ℕ) → g < all_groups y → o < y.u → c < contents y → at img' (home_spot y R g o c) ≡ at img (home_spot y R g o c)
   pub reads_back : (offset size : ℕ) → read_out y R' img' offset size ≡ read_out y R img offset size
-
-module _ (y : Layout) (R : Record) (d : ℕ) (img : List ℕ) (kept : Kept y R) (repaired : R.q ≡ R.k) (fails : fail_refusal y R (length img) d ≡ 0)
-    (repairs : repair_refusal y (grown y R d) (length img) ≡ 0) where
-  -- the drive has failed, and the pool is repaired
-  abbrev lost : Record
-  lost = grown y R d
-
-  abbrev whole : Record
-  whole = mended (grown y R d)
-
-  abbrev asked : FailAsked y R (length img) d
-  asked = fail_asked y R (length img) d fails
-
-  lost_is : fail_record y R (length img) d ≡ lost
-  unfolding fail_record
-  lost_is = grant_yes (fail_refusal y R (length img) d) (grown y R d) R fails
-
-  lost_kept : Kept y lost
-  lost_kept = subst (λ (S : Record). Kept y S) lost_is (fail_kept y R (length img) d kept)
-
-  whole_is : repair_record y lost (length img) ≡ whole
-  unfolding repair_record
-  whole_is = grant_yes (repair_refusal y lost (length img)) whole lost repairs
-
-  whole-good : Good y whole
-  whole-good = (subst (λ (S : Record). Kept y S) whole_is (repair_kept y lost (length img) lost_kept)).good
-
-  whole-listed : failed whole d ≡ true
-  whole-listed = ap (λ (S : Record). failed S d) (sym lost_is) ∙ fail_listed y R (length img) d kept.room fails
-
-  whole-few : whole.k ≤ 3
-  whole-few = omega (arith, whole-good.few, asked.sound.valid.few_parity)
-
-  -- the swap is accepted
-  pub back_asked : (len : ℕ) → len ≡ length img → SwapAsked y whole len d
-  back_asked len e =
-      record {
-        sound = record { valid = asked.sound.valid; len_is = e ∙ asked.sound.len_is; good = whole-good; within = omega arith };
-        target_lt = asked.target_lt;
-        is_failed = whole-listed;
-        repaired = refl;
-      }
-
-  -- d is the last entry: so the list is as before
-  last : list_place whole d ≡ R.k
-  last =
-      lowest-at (λ i. eqb (entry whole i) d) (suc R.k) R.k (le_refl (suc R.k))
-      (eq-eqb (entry whole R.k) d (get_or-set_same R.failed R.k d 0 (omega (arith, kept.room, asked.room, asked.sound.valid.few_parity))))
-      (λ i b. ne_eqb (entry whole i) d (λ e. unlisted (entry R) R.k d asked.new i b (sym (entry_same y R d i b) ∙ e)))
-
-  entries_back : (i : ℕ) → i < R.k → entry (without whole d) i ≡ entry R i
-  entries_back i b =
-      let b' : i < suc R.k - 1 = omega arith in
-      entry-without whole d whole-few whole-listed i b'
-      ∙ ap (entry whole) (ap (λ (p : ℕ). skip p i) last ∙ skip-low R.k i b) ∙ entry_same y R d i b
-
-  homes_back : (j g c : ℕ) → j ≤ R.k → home y (without whole d) j g c ≡ home y R j g c
-  unfolding home
-  homes_back j g c le =
-      ap (λ (h : ℕ → ℕ). h c) (homes_same (target_at y g) (contents y) y.k (entry (without whole d)) (entry R) j (λ i b. entries_back i (omega arith)))
-
-  back_count : suc R.k - 1 ≡ R.k
-  back_count = omega arith
-
-  home_same : (g c : ℕ) → home y (without whole d) (suc R.k - 1) g c ≡ home y R R.q g c
-  home_same g c =
-      ap (λ (j : ℕ). home y (without whole d) j g c) (back_count ∙ sym repaired) ∙ homes_back R.q g c (omega (arith, repaired))
-
-  -- ---- the repaired image, with anything on the failed drives
-
-  module _ (file : List ℕ) (holds : Holds y R img file) (ink : ℕ → ℕ) where
-    abbrev before : List ℕ
-    before = scribbled y whole (repair_image y lost img) ink
-
-    before-length : length before ≡ length img
-    before-length = scribble_length y whole (repair_image y lost img) ink ∙ repair_length y lost img
-
-    before_holds : Holds y whole before file
-    before_holds =
-        scribble_right y whole asked.sound.valid whole-good (repair_image y lost img) file ink
-        (subst (λ (S : Record). Holds y S (repair_image y lost img) file) whole_is
-        (repair_right y lost img file (subst (λ (S : Record). Holds y S img file) lost_is (fail_right y R (length img) d img file kept.good holds))))
-
-    swap_accepts : swap_refusal y whole (length before) d ≡ 0
-    swap_accepts = swap_granted y whole (length before) d (back_asked (length before) before-length)
-
-    after_holds : Holds y (without whole d) (swap_image y whole before d) file
-    after_holds =
-        subst (λ (S : Record). Holds y S (swap_image y whole before d) file) (swap_record_lem y whole d before swap_accepts) (swap_right y whole d before file before_holds)
-
-    after-sound : Sound y (without whole d) (length (swap_image y whole before d))
-    after-sound =
-        record {
-          valid = asked.sound.valid;
-          len_is = after_holds.image_length_lem;
-          good = without-good whole d whole-few whole-listed y whole-good;
-          within = omega arith;
-        }
-
-    pub back_again : (swap_refusal y whole (length before) d ≡ 0) × Back y R (without whole d) img (swap_image y whole before d)
-    back_again = (swap_accepts, by)
-      where
-        by : Back y R (without whole d) img (swap_image y whole before d)
-        by =
-            record {
-              as_many = (back_count, back_count ∙ sym repaired);
-              entries = entries_back;
-              home_back = home_same;
-              bytes_back = λ g o c hg ho hc.
-                  ap (λ (u : ℕ). at (swap_image y whole before d) (spot y g u o)) (sym (home_same g c))
-                  ∙ unfold stored in (
-                  after_holds.present g o c hg ho hc (repaired_present y asked.sound.valid (without whole d) g after-sound.good.few refl c hc)
-                  ∙ sym (holds.present g o c hg ho hc (repaired_present y asked.sound.valid R g kept.good.few repaired c hc)));
-              reads_back = reads_same y (without whole d) R (swap_image y whole before d) img file after-sound asked.sound after_holds holds;
-            }

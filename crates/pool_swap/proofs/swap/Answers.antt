@@ -1,6 +1,6 @@
 -- `pool_swap::swap` meets its contract: refused, or accepted and its contents moved group after group.
 use mathlib.Core.Path.{sym, ◌∙◌}
-use Rattle.swapping.specs.SwapLaws.{swap_asked}
+use Rattle.swapping.proofs.SwapLaws.{swap_asked}
 use Rattle.pool_swap.specs.Answers.{answers_refused, answers_swapped}
 use borrow.Author.Rules.{rules}
 use Rattle.pool_swap.proofs.swap.Goals as goal

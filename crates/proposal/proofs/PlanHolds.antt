@@ -29,7 +29,8 @@ use Rattle.pool.specs.Blind.{Agree}
 use Rattle.pool.specs.Elsewhere.{AgreeElsewhere, agree_of, elsewhere_of}
 use Rattle.proposal.specs.Plans.{Accepts}
 use Rattle.proposal.specs.Running.{plan_refusal, named_by, unused, planned_byte, planned_image, plan_image, plan_record, plan_count}
-use Rattle.proposal.specs.RunningLaws.{named_by_lem, plan_solvable, used-present, plan_asked, plan_record_lem, plan_image_lem}
+use Rattle.proposal.specs.RunningLaws.{named_by_lem, plan_solvable, used-present}
+use Rattle.proposal.proofs.RunningLaws.{plan_asked, plan_record_lem, plan_image_lem}
 
 module _ (y : Layout) (R : Record) (plan img : List ℕ) where
   -- ---- accepted or refused
@@ -115,8 +116,6 @@ module _ (y : Layout) (R : Record) (plan img : List ℕ) where
       let s = (plan_asked y R (length img) plan z).sound in
       ap (λ (i : List ℕ). at i (spot y g (home y R R.k g c) o)) (plan_accepted z)
       ∙ storing-at y s.valid R R.k _ _ img s.len_is s.good.few g o c hg ho hc
-
--- ---- independence
 
 module _ (y : Layout) (R : Record) (plan img img' : List ℕ) where
   -- what is rebuilt depends on the entry's sources alone

@@ -13,7 +13,8 @@ use Rattle.homes.specs.DroppingLaws.{entry-without, skip-few}
 use Rattle.pool.specs.Unread.{Alike, grant_same}
 use Rattle.pool.proofs.UnreadLaws.{alike_after, homes_unread, stored_unread, storing_unread, own_unread}
 use Rattle.swapping.specs.Swapping.{swap_refusal, swap_image, swap_record}
-use Rattle.swapping.specs.SwapLaws.{swap_asked, few-entries, less_good}
+use Rattle.swapping.specs.SwapLaws.{few-entries, less_good}
+use Rattle.swapping.proofs.SwapLaws.{swap_asked}
 
 module _ (y : Layout) (R R' : Record) (alike : Alike R R') (d : ℕ) where
   listed_unread : failed R d ≡ failed R' d

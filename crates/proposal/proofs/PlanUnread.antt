@@ -22,9 +22,9 @@ use Rattle.pool.proofs.UnreadLaws.{alike_after, new-homes_unread, lost_unread, u
 use Rattle.proposal.specs.Plans.{entry_size, entries, group_named, content_named, source, names, named_once, each_once, source_good, sources_good, names_missing, plan_good}
 use Rattle.proposal.specs.Pairs.{missing_pair}
 use Rattle.proposal.specs.Running.{plan_refusal, named_by, unused, planned_byte, plan_image, plan_record, plan_count}
-use Rattle.proposal.specs.RunningLaws.{plan_asked}
+use Rattle.proposal.proofs.RunningLaws.{plan_asked}
 use Rattle.proposal.specs.Drawing.{group_drawn, content_drawn, entry_number, drawn_plan, draw_refusal, draw_count, draw_out}
-use Rattle.proposal.specs.DrawingLaws.{draw_asked}
+use Rattle.proposal.proofs.DrawingLaws.{draw_asked}
 
 module _ (y : Layout) (R R' : Record) (alike : Alike R R') where
   -- the test sees of the record which contents are missing

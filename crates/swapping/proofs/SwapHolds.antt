@@ -21,7 +21,8 @@ use Rattle.pool.proofs.ScribbleHoldsLaws.{scribble_right}
 use Rattle.pool.specs.Blind.{Agree}
 use Rattle.pool.specs.Elsewhere.{AgreeElsewhere, agree_of, elsewhere_of}
 use Rattle.swapping.specs.Swapping.{swap_refusal, swap_image, swap_record}
-use Rattle.swapping.specs.SwapLaws.{swap_asked, less_good, less_repaired, none_before, swap_refused, swap_length, stored_swapped}
+use Rattle.swapping.specs.SwapLaws.{less_good, less_repaired, none_before}
+use Rattle.swapping.proofs.SwapLaws.{swap_asked, swap_refused, swap_length, stored_swapped}
 
 module _ (y : Layout) (R : Record) (d : ℕ) where
   -- ".. which on a pool that demand 3 can reach is what encoding afresh would put there"

@@ -1,0 +1,4 @@
+pub mod SwapLaws
+pub mod SwapHolds
+pub mod SwapBackLaws
+pub mod SwapUnread
