@@ -2,7 +2,6 @@
 use mathlib.Core.Path.{sym, ◌∙◌}
 use Rattle.swapping.proofs.SwapLaws.{swap_asked}
 use Rattle.pool_swap.specs.Answers.{answers_refused, answers_swapped}
-use borrow.Author.Rules.{rules}
 use Rattle.pool_swap.proofs.swap.Goals as goal
 
 pub returns-then-refusal-ne0 : goal.returns-then-refusal-ne0

@@ -1,14 +1,12 @@
 -- `pool_swap::swap_groups`. The loop keeps: the permutation in hand is its tile's, and the contents of the groups passed have moved.
 use mathlib.Core.Path.{◌≡◌, refl, ap, ◌∙◌, subst⁻¹}
-use Prim.Native.Nat.{ℕ, ◌-◌, ◌≤◌, ◌<◌}
+use Prim.Native.Nat.{ℕ, ◌≤◌, ◌<◌}
 use native.Mathlib.Omega.{arith}
 use borrow.Author.Rules.{rules}
 use lib.ListN.{length}
-use Rattle.numbers.specs.Layouts.{all_groups}
-use Rattle.place.specs.Places.{tile_permutation}
 use Rattle.homes.specs.Records.{Good}
 use Rattle.swapping.specs.SwapLaws.{few-entries, some_entry, less_good}
-use Rattle.pool_swap.specs.Groups.{swapped_below, swapped_begin, swapped_length, group_movable, swapped_turn, swapped_end}
+use Rattle.pool_swap.specs.Groups.{swapped_begin, swapped_length, group_movable, swapped_turn, swapped_end}
 use Rattle.pool_swap.proofs.swap_groups.Goals as goal
 
 -- a group, and few of them
@@ -43,10 +41,10 @@ tile_to-to-requires c = (c.requires.sound.valid, c.loop-g.invariant.3)
 
 pub shift_of-shift-requires : goal.shift_of-shift-requires
 shift_of-shift-requires c = let a = c.requires in (
-      a.sound.good,
-      subst⁻¹ (Good _) c.without-less.ensures (less_good _ _ _ a),
-      record { valid = a.sound.valid; shape = c.shape_of-s.ensures; tile = c.tile_to-to.ensures; group = (turn _ _ _ c.loop-g-test.true c.numbers_of-numbers.ensures.groups_is c.numbers_of-numbers.ensures.groups-few).0 },
-    )
+  a.sound.good,
+  subst⁻¹ (Good _) c.without-less.ensures (less_good _ _ _ a),
+  record { valid = a.sound.valid; shape = c.shape_of-s.ensures; tile = c.tile_to-to.ensures; group = (turn _ _ _ c.loop-g-test.true c.numbers_of-numbers.ensures.groups_is c.numbers_of-numbers.ensures.groups-few).0 },
+)
 
 pub move_units-requires : goal.move_units-requires
 move_units-requires c = let l = c.loop-g in

@@ -1,13 +1,9 @@
-use mathlib.Core.Path.{◌≡◌, refl, ap, ◌∙◌, subst⁻¹}
-use Prim.Native.Nat.{◌-◌, ◌≤◌, ◌<◌}
-use native.Mathlib.Omega.{arith}
-use borrow.Author.Rules.{rules}
+use mathlib.Core.Path.{◌≡◌}
+use Prim.Native.Nat.{◌-◌, ◌≤◌}
 use lib.ListN.{length}
 use Rattle.numbers.specs.Layouts.{all_groups}
 use Rattle.place.specs.Places.{tile_permutation}
-use Rattle.homes.specs.Records.{Good}
-use Rattle.swapping.specs.SwapLaws.{few-entries, some_entry, less_good}
-use Rattle.pool_swap.specs.Groups.{swapped_below, swapped_begin, swapped_length, group_movable, swapped_turn, swapped_end}
+use Rattle.pool_swap.specs.Groups.{swapped_below}
 use Rattle.pool_swap.proofs.swap_groups.Given as goal
 
 abbrev pub invariant-loop-g : goal.invariant-loop-g

@@ -2,12 +2,11 @@
 use mathlib.Core.Path.{◌≡◌, sym, ◌∙◌}
 use Prim.Native.Nat.{ℕ}
 use native.Mathlib.Omega.{arith}
-use borrow.Author.Rules.{rules}
 use Rattle.numbers.specs.declared.Layout.{Layout}
 use Rattle.pool.specs.Refusals.{repair_refusal}
 use Rattle.homes.specs.declared.Record.{Record}
 use Rattle.lists.specs.Refusal.{refusal_by}
-use Rattle.pool.specs.Asked.{Sound, repair_asked}
+use Rattle.pool.specs.Asked.{repair_asked}
 use Rattle.checks.specs.Tests.{refused_first, passed_first}
 use Rattle.swapping.specs.Swapping.{swap_tests, swap_refusal}
 use Rattle.pool_swap.specs.Answers.{swap_outside, swap_alive, swap_early, swap_allowed}
