@@ -13,9 +13,6 @@ loop-i-init c = (omega arith, refl, λ x h. absurd (not-suc-le-zero h))
 pub mul_by-requires : goal.mul_by-requires
 mul_by-requires c = c.requires.0
 
-pub loop-i-smaller : goal.loop-i-smaller
-loop-i-smaller c = omega arith
-
 pub loop-i-preserved : goal.loop-i-preserved
 loop-i-preserved c = let a = c.args in
     let l = c.loop-i in (

@@ -23,9 +23,6 @@ overflow_mul-at c = let a = c.args in omega (arith, add-mul a.n a.k a.unit, c.re
 pub loop-i-init : goal.loop-i-init
 loop-i-init c = let a = c.args in (omega arith, ap (◌* a.unit) (sym (add-zero a.n)), le_refl _, span_none _ (a.n * a.unit) a.buf.now refl)
 
-pub row-coefs-requires : goal.row-coefs-requires
-row-coefs-requires c = omega arith
-
 pub combine_in-requires : goal.combine_in-requires
 combine_in-requires c = let a = c.args in
     let p = c.requires in
@@ -47,12 +44,6 @@ pub overflow_add-at : goal.overflow_add-at
 overflow_add-at c = let a = c.args in
     let l = c.loop-i in
     omega (arith, l.invariant.1, unit_end (a.n + l.i) (a.n + a.k) a.unit (omega arith), c.requires.3)
-
-pub overflow_add-i : goal.overflow_add-i
-overflow_add-i c = omega arith
-
-pub loop-i-smaller : goal.loop-i-smaller
-loop-i-smaller c = omega arith
 
 pub loop-i-preserved : goal.loop-i-preserved
 loop-i-preserved c = let a = c.args in

@@ -10,26 +10,8 @@ use Rattle.coding.proofs.starts_of.Goals as goal
 pub loop-j-init : goal.loop-j-init
 loop-j-init c = (omega arith, refl, λ x h. absurd (not-suc-le-zero h))
 
-pub offset_bounds-units-j : goal.offset_bounds-units-j
-offset_bounds-units-j c = omega arith
-
-pub bounds-units-j : goal.bounds-units-j
-bounds-units-j c = omega arith
-
 pub overflow_mul-starts : goal.overflow_mul-starts
 overflow_mul-starts c = let h = c.requires.1 c.loop-j.j c.loop-j-test.true in omega (arith, c.ranges)
-
-pub offset_bounds-starts-j : goal.offset_bounds-starts-j
-offset_bounds-starts-j c = omega arith
-
-pub bounds-starts-j : goal.bounds-starts-j
-bounds-starts-j c = omega arith
-
-pub overflow_add-j : goal.overflow_add-j
-overflow_add-j c = omega arith
-
-pub loop-j-smaller : goal.loop-j-smaller
-loop-j-smaller c = omega arith
 
 pub loop-j-preserved : goal.loop-j-preserved
 loop-j-preserved c = let a = c.args in

@@ -18,31 +18,13 @@ pub loop-j-init : goal.loop-j-init
 unfolding count
 loop-j-init c = (omega arith, refl, refl, λ x h. absurd (not-suc-le-zero h))
 
-pub bounds-miss-j : goal.bounds-miss-j
-bounds-miss-j c = omega arith
-
 pub slot_coef-requires : goal.slot_coef-requires
 slot_coef-requires c = let a = c.args in
     let l = c.loop-j in
     (c.requires.0, λ t. rank_lt (flag a.miss) a.n l.j l.invariant.2 c.loop-j-test.true t c.requires.2)
 
-pub bounds-row-j : goal.bounds-row-j
-bounds-row-j c = omega arith
-
-pub bounds-miss-j-in-loop-j : goal.bounds-miss-j-in-loop-j
-bounds-miss-j-in-loop-j c = omega arith
-
-pub one_if-c-requires : goal.one_if-c-requires
-one_if-c-requires c = omega arith
-
 pub overflow_add-c : goal.overflow_add-c
 overflow_add-c c = let l = c.loop-j in let m = flag c.args.miss in omega (arith, c.one_if-c.ensures, l.invariant.2, count-le m l.j, bit_le (m l.j))
-
-pub overflow_add-j : goal.overflow_add-j
-overflow_add-j c = omega arith
-
-pub loop-j-smaller : goal.loop-j-smaller
-loop-j-smaller c = omega arith
 
 pub loop-j-preserved : goal.loop-j-preserved
 loop-j-preserved c = let a = c.args in

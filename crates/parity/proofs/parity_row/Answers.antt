@@ -17,23 +17,8 @@ coefs_across-across-requires c = (c.requires.2, c.requires.3)
 pub loop-j-init : goal.loop-j-init
 loop-j-init c = (omega arith, refl, λ x h. absurd (not-suc-le-zero h))
 
-pub bounds-own-j : goal.bounds-own-j
-bounds-own-j c = omega arith
-
-pub bounds-miss-j : goal.bounds-miss-j
-bounds-miss-j c = omega arith
-
 pub parity_coef-requires : goal.parity_coef-requires
 parity_coef-requires c = c.requires.0
-
-pub bounds-row-j : goal.bounds-row-j
-bounds-row-j c = omega arith
-
-pub overflow_add-j : goal.overflow_add-j
-overflow_add-j c = omega arith
-
-pub loop-j-smaller : goal.loop-j-smaller
-loop-j-smaller c = omega arith
 
 pub loop-j-preserved : goal.loop-j-preserved
 loop-j-preserved c = let a = c.args in

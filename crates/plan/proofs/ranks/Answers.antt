@@ -14,26 +14,8 @@ pub loop-i-init : goal.loop-i-init
 unfolding count
 loop-i-init c = (omega arith, refl, refl, λ x h. absurd (not-suc-le-zero h))
 
-pub offset_bounds-r-i : goal.offset_bounds-r-i
-offset_bounds-r-i c = omega arith
-
-pub bounds-r-i : goal.bounds-r-i
-bounds-r-i c = omega arith
-
-pub bounds-miss-i : goal.bounds-miss-i
-bounds-miss-i c = omega arith
-
-pub one_if-c-requires : goal.one_if-c-requires
-one_if-c-requires c = omega arith
-
 pub overflow_add-c : goal.overflow_add-c
 overflow_add-c c = let l = c.loop-i in omega (arith, c.one_if-c.ensures, l.invariant.2, count-le (flag c.args.miss) l.i, bit_le (flag c.args.miss l.i))
-
-pub overflow_add-i : goal.overflow_add-i
-overflow_add-i c = omega arith
-
-pub loop-i-smaller : goal.loop-i-smaller
-loop-i-smaller c = omega arith
 
 pub loop-i-preserved : goal.loop-i-preserved
 loop-i-preserved c = let l = c.loop-i in

@@ -11,23 +11,8 @@ use Rattle.plan.proofs.same_flags.Goals as goal
 pub loop-i-init : goal.loop-i-init
 loop-i-init c = (omega arith, λ x h. absurd (not-suc-le-zero h))
 
-pub bounds-a-i : goal.bounds-a-i
-bounds-a-i c = omega arith
-
-pub bounds-b-i : goal.bounds-b-i
-bounds-b-i c = omega arith
-
-pub alike-requires : goal.alike-requires
-alike-requires c = omega arith
-
 pub returns-then-not-alike : goal.returns-then-not-alike
 returns-then-not-alike c = λ t. clash _ t refl
-
-pub overflow_add-i : goal.overflow_add-i
-overflow_add-i c = omega arith
-
-pub loop-i-smaller : goal.loop-i-smaller
-loop-i-smaller c = omega arith
 
 pub loop-i-preserved : goal.loop-i-preserved
 loop-i-preserved c = (omega arith, below_more (λ x. flag c.args.a x ≡ flag c.args.b x) _ c.loop-i.invariant.1 (alike_same _ _ (sym c.alike.ensures ∙ c.if-not-alike.false)))
