@@ -1,5 +1,4 @@
 -- `pool_move::move_edition` meets its contract: refused it leaves zeros, accepted the new pool.
-use borrow.Author.Rules.{rules}
 use Rattle.pool_move.specs.Answers.{moves_asked, moves_refused, moves_accepted}
 use Rattle.pool_move.proofs.move_edition.Goals as goal
 

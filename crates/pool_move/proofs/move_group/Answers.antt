@@ -1,7 +1,6 @@
 -- `pool_move::move_group` meets its contract: contents at their own places, then spares of zeros, are all units of the group (`group_laid`).
 use Rattle.runs.specs.Steps.{fits_at}
 use Rattle.pool_move.specs.Turns.{spares_fit, group_laid}
-use borrow.Author.Rules.{rules}
 use Rattle.pool_move.proofs.move_group.Goals as goal
 
 pub move_contents-requires : goal.move_contents-requires

@@ -1,12 +1,9 @@
 -- `pool_move::move_groups` meets its contract. The loop keeps: the groups below g are moved.
 use mathlib.Core.Path.{◌≡◌, refl, sym, ◌∙◌}
-use Prim.Native.Nat.{ℕ, ◌-◌, ◌≤◌, ◌<◌}
+use Prim.Native.Nat.{ℕ, ◌≤◌, ◌<◌}
 use native.Mathlib.Omega.{arith}
-use Rattle.numbers.specs.Layouts.{all_groups}
-use Rattle.survey.specs.Surveyed.{Surveying}
-use Rattle.moving.specs.Moving.{shown_file}
 use Rattle.moving.specs.FreshLaws.{unfailed-good}
-use Rattle.pool_move.specs.Turns.{SameShape, same_shape, ready, fresh_group, MovedBelow, moves_begin, moves_turn, moves_end}
+use Rattle.pool_move.specs.Turns.{same_shape, ready, fresh_group, moves_begin, moves_turn, moves_end}
 use Rattle.pool_move.proofs.move_groups.Goals as goal
 
 -- a group, and few of them

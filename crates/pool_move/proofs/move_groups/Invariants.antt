@@ -1,11 +1,8 @@
-use mathlib.Core.Path.{refl, sym, ◌∙◌}
-use Prim.Native.Nat.{◌-◌, ◌≤◌, ◌<◌}
-use native.Mathlib.Omega.{arith}
+use Prim.Native.Nat.{◌-◌, ◌≤◌}
 use Rattle.numbers.specs.Layouts.{all_groups}
 use Rattle.survey.specs.Surveyed.{Surveying}
 use Rattle.moving.specs.Moving.{shown_file}
-use Rattle.moving.specs.FreshLaws.{unfailed-good}
-use Rattle.pool_move.specs.Turns.{SameShape, same_shape, ready, fresh_group, MovedBelow, moves_begin, moves_turn, moves_end}
+use Rattle.pool_move.specs.Turns.{MovedBelow}
 use Rattle.pool_move.proofs.move_groups.Given as goal
 
 abbrev pub invariant-loop-g : goal.invariant-loop-g

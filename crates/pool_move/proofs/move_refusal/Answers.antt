@@ -1,6 +1,5 @@
 -- `pool_move::move_refusal` meets its contract: by the two lengths, and by the number that the old image's tests give.
 use Rattle.pool_move.specs.Answers.{one-length, bad-layout, two_lengths}
-use borrow.Author.Rules.{rules}
 use Rattle.pool_move.proofs.move_refusal.Goals as goal
 
 pub returns-then-new-old : goal.returns-then-new-old
