@@ -6,7 +6,7 @@ use Rattle.lists.specs.Pick.{pick, below_or_not}
 use Rattle.lists.specs.Tabulate.{length-tabulate}
 use Rattle.lists.specs.Digits.{div_of, mod_of, div_below}
 use Rattle.numbers.specs.declared.Layout.{Layout}
-use Rattle.numbers.specs.Layouts.{Valid, groups, all_groups, capacity}
+use Rattle.numbers.specs.Layouts.{Valid, all_groups, capacity}
 use Rattle.numbers.specs.Shapes.{layout_products}
 use Rattle.place.specs.Bytes.{group_of, unit_in, byte_in}
 use Rattle.homes.specs.declared.Record.{Record}
