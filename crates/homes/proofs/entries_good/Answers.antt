@@ -10,30 +10,15 @@ use Rattle.homes.proofs.entries_good.Goals as goal
 pub loop-i-init : goal.loop-i-init
 loop-i-init c = (omega arith, below_none _)
 
-pub offset_bounds-failed-i : goal.offset_bounds-failed-i
-offset_bounds-failed-i c = omega arith
-
-pub bounds-failed-i : goal.bounds-failed-i
-bounds-failed-i c = omega arith
-
 pub returns-then-y-t : goal.returns-then-y-t
 returns-then-y-t c = let a = c.args in
     let i = c.loop-i.i in
     one-bad (entry_good a.y a.r) a.r.k i (omega arith) (entry_outside a.y a.r i c.if-y-t.true)
 
-pub is_listed-requires : goal.is_listed-requires
-is_listed-requires c = omega arith
-
 pub returns-then-is_listed : goal.returns-then-is_listed
 returns-then-is_listed c = let a = c.args in
     let i = c.loop-i.i in
     one-bad (entry_good a.y a.r) a.r.k i (omega arith) (entry_twice a.y a.r i (sym c.is_listed.ensures ∙ c.if-is_listed.true))
-
-pub overflow_add-i : goal.overflow_add-i
-overflow_add-i c = omega arith
-
-pub loop-i-smaller : goal.loop-i-smaller
-loop-i-smaller c = omega arith
 
 pub loop-i-preserved : goal.loop-i-preserved
 loop-i-preserved c = let a = c.args in

@@ -10,9 +10,6 @@ returns-then-y-r c = let a = c.args in too_many a.y a.r c.if-y-r.true
 pub returns-then-r : goal.returns-then-r
 returns-then-r c = let a = c.args in too_mended a.y a.r (omega arith) c.if-r.true
 
-pub entries_good-requires : goal.entries_good-requires
-entries_good-requires c = omega arith
-
 pub returns-then-entries_good : goal.returns-then-entries_good
 returns-then-entries_good c = let a = c.args in
     accepted_by a.y a.r (by_entries a.y a.r (omega arith) (omega arith) ∙ sym c.entries_good.ensures ∙ c.if-entries_good.true)

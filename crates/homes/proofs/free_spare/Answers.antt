@@ -10,19 +10,10 @@ use Rattle.homes.proofs.free_spare.Goals as goal
 pub loop-spare-init : goal.loop-spare-init
 loop-spare-init c = (omega arith, below_none _)
 
-pub is_free-requires : goal.is_free-requires
-is_free-requires c = omega arith
-
 pub returns-then-is_free : goal.returns-then-is_free
 returns-then-is_free c = let a = c.args in
     let l = c.loop-spare in
     (sym (lowest-at (free (at a.targets) a.m (at a.failed) a.j (at a.homes)) a.spares l.spare (omega arith) (sym c.is_free.ensures ∙ c.if-is_free.true) l.invariant.1), omega arith)
-
-pub overflow_add-spare : goal.overflow_add-spare
-overflow_add-spare c = omega arith
-
-pub loop-spare-smaller : goal.loop-spare-smaller
-loop-spare-smaller c = omega arith
 
 pub loop-spare-preserved : goal.loop-spare-preserved
 loop-spare-preserved c = (omega arith, below_more _ _ c.loop-spare.invariant.1 (sym c.is_free.ensures ∙ c.if-is_free.false))

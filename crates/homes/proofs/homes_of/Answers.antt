@@ -17,12 +17,6 @@ moved-next-requires c = let a = c.args in
     let s = c.requires in
     (homes_units a.targets a.failed a.m a.spares a.j s l.i (omega arith) l.homes l.invariant.1, omega arith)
 
-pub overflow_add-i : goal.overflow_add-i
-overflow_add-i c = omega arith
-
-pub loop-i-smaller : goal.loop-i-smaller
-loop-i-smaller c = omega arith
-
 pub loop-i-preserved : goal.loop-i-preserved
 loop-i-preserved c = let a = c.args in
     let l = c.loop-i in

@@ -9,22 +9,10 @@ use Rattle.homes.proofs.is_home.Goals as goal
 pub loop-c-init : goal.loop-c-init
 loop-c-init c = (omega arith, below_none _)
 
-pub offset_bounds-homes-c : goal.offset_bounds-homes-c
-offset_bounds-homes-c c = omega arith
-
-pub bounds-homes-c : goal.bounds-homes-c
-bounds-homes-c c = omega arith
-
 pub returns-then-homes-c : goal.returns-then-homes-c
 returns-then-homes-c c = let a = c.args in
     let i = c.loop-c.c in
     sym (ap (listed (at a.homes) a.m) (sym c.if-homes-c.true) ∙ listed_at (at a.homes) a.m i (omega arith))
-
-pub overflow_add-c : goal.overflow_add-c
-overflow_add-c c = omega arith
-
-pub loop-c-smaller : goal.loop-c-smaller
-loop-c-smaller c = omega arith
 
 pub loop-c-preserved : goal.loop-c-preserved
 loop-c-preserved c = (omega arith, below_more _ _ c.loop-c.invariant.1 c.if-homes-c.false)

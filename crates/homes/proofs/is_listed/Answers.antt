@@ -9,22 +9,10 @@ use Rattle.homes.proofs.is_listed.Goals as goal
 pub loop-i-init : goal.loop-i-init
 loop-i-init c = (omega arith, below_none _)
 
-pub offset_bounds-failed-i : goal.offset_bounds-failed-i
-offset_bounds-failed-i c = omega arith
-
-pub bounds-failed-i : goal.bounds-failed-i
-bounds-failed-i c = omega arith
-
 pub returns-then-failed-i : goal.returns-then-failed-i
 returns-then-failed-i c = let a = c.args in
     let i = c.loop-i.i in
     sym (ap (listed (at a.failed) a.j) (sym c.if-failed-i.true) ∙ listed_at (at a.failed) a.j i (omega arith))
-
-pub overflow_add-i : goal.overflow_add-i
-overflow_add-i c = omega arith
-
-pub loop-i-smaller : goal.loop-i-smaller
-loop-i-smaller c = omega arith
 
 pub loop-i-preserved : goal.loop-i-preserved
 loop-i-preserved c = (omega arith, below_more _ _ c.loop-i.invariant.1 c.if-failed-i.false)

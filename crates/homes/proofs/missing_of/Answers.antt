@@ -11,26 +11,8 @@ use Rattle.homes.proofs.missing_of.Goals as goal
 pub loop-c-init : goal.loop-c-init
 loop-c-init c = (omega arith, refl, below_none _)
 
-pub offset_bounds-homes-c : goal.offset_bounds-homes-c
-offset_bounds-homes-c c = omega arith
-
-pub bounds-homes-c : goal.bounds-homes-c
-bounds-homes-c c = omega arith
-
 pub bounds-targets-home : goal.bounds-targets-home
 bounds-targets-home c = let u = c.requires.0.units c.loop-c.c c.loop-c-test.true in omega (arith, c.requires.0.few_units)
-
-pub is_listed-requires : goal.is_listed-requires
-is_listed-requires c = omega arith
-
-pub bounds-missing-c : goal.bounds-missing-c
-bounds-missing-c c = omega arith
-
-pub overflow_add-c : goal.overflow_add-c
-overflow_add-c c = omega arith
-
-pub loop-c-smaller : goal.loop-c-smaller
-loop-c-smaller c = omega arith
 
 pub loop-c-preserved : goal.loop-c-preserved
 loop-c-preserved c = let a = c.args in

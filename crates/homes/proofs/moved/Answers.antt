@@ -10,44 +10,14 @@ use Rattle.lists.specs.Tabulate.{at, fill_step}
 use Rattle.homes.specs.Steps.{move_is}
 use Rattle.homes.proofs.moved.Goals as goal
 
-pub overflow_add-j : goal.overflow_add-j
-overflow_add-j c = omega arith
-
-pub free_spare-requires : goal.free_spare-requires
-free_spare-requires c = let u = c.requires.0 in omega arith
-
 pub overflow_add-to : goal.overflow_add-to
 overflow_add-to c = let u = c.requires.0 in omega (arith, c.free_spare.ensures)
-
-pub offset_bounds-failed-j : goal.offset_bounds-failed-j
-offset_bounds-failed-j c = omega arith
-
-pub bounds-failed-j : goal.bounds-failed-j
-bounds-failed-j c = omega arith
 
 pub loop-c-init : goal.loop-c-init
 loop-c-init c = (omega arith, refl, below_none _)
 
-pub offset_bounds-homes-c : goal.offset_bounds-homes-c
-offset_bounds-homes-c c = let u = c.requires.0 in omega arith
-
-pub bounds-homes-c : goal.bounds-homes-c
-bounds-homes-c c = let u = c.requires.0 in omega arith
-
 pub bounds-targets-home : goal.bounds-targets-home
 bounds-targets-home c = let u = c.requires.0 in let h = u.units c.loop-c.c c.loop-c-test.true in omega arith
-
-pub offset_bounds-after-c : goal.offset_bounds-after-c
-offset_bounds-after-c c = let u = c.requires.0 in omega arith
-
-pub bounds-after-c : goal.bounds-after-c
-bounds-after-c c = let u = c.requires.0 in omega arith
-
-pub overflow_add-c : goal.overflow_add-c
-overflow_add-c c = let u = c.requires.0 in omega arith
-
-pub loop-c-smaller : goal.loop-c-smaller
-loop-c-smaller c = omega arith
 
 pub loop-c-preserved : goal.loop-c-preserved
 loop-c-preserved c = let a = c.args in

@@ -9,18 +9,6 @@ use Rattle.homes.proofs.own_places.Goals as goal
 pub loop-c-init : goal.loop-c-init
 loop-c-init c = (omega arith, refl, below_none _)
 
-pub offset_bounds-homes-c : goal.offset_bounds-homes-c
-offset_bounds-homes-c c = omega arith
-
-pub bounds-homes-c : goal.bounds-homes-c
-bounds-homes-c c = omega arith
-
-pub overflow_add-c : goal.overflow_add-c
-overflow_add-c c = omega arith
-
-pub loop-c-smaller : goal.loop-c-smaller
-loop-c-smaller c = omega arith
-
 pub loop-c-preserved : goal.loop-c-preserved
 loop-c-preserved c = let l = c.loop-c in
     (omega arith, length-set l.homes l.c _ ∙ l.invariant.1, fill_step (λ k. k) l.homes l.c _ 0 (omega arith) refl l.invariant.2)

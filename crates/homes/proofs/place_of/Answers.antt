@@ -13,22 +13,10 @@ use Rattle.homes.proofs.place_of.Goals as goal
 pub loop-i-init : goal.loop-i-init
 loop-i-init c = (omega arith, below_none _)
 
-pub offset_bounds-failed-i : goal.offset_bounds-failed-i
-offset_bounds-failed-i c = omega arith
-
-pub bounds-failed-i : goal.bounds-failed-i
-bounds-failed-i c = omega arith
-
 pub returns-then-failed-i : goal.returns-then-failed-i
 returns-then-failed-i c = let a = c.args in
     let l = c.loop-i in
     sym (lowest-at (λ j. eqb (at a.failed j) a.t) a.k l.i (omega arith) (eq-eqb _ _ c.if-failed-i.true) l.invariant.1)
-
-pub overflow_add-i : goal.overflow_add-i
-overflow_add-i c = omega arith
-
-pub loop-i-smaller : goal.loop-i-smaller
-loop-i-smaller c = omega arith
 
 pub loop-i-preserved : goal.loop-i-preserved
 loop-i-preserved c = (omega arith, below_more _ _ c.loop-i.invariant.1 (ne_eqb _ _ c.if-failed-i.false))

@@ -22,18 +22,6 @@ loop-i-init c = (omega arith, refl, below_none _)
 pub entry_without-requires : goal.entry_without-requires
 entry_without-requires c = (omega (arith, c.requires.1), c.loop-i-test.true)
 
-pub offset_bounds-failed-i : goal.offset_bounds-failed-i
-offset_bounds-failed-i c = omega arith
-
-pub bounds-failed-i : goal.bounds-failed-i
-bounds-failed-i c = omega arith
-
-pub overflow_add-i : goal.overflow_add-i
-overflow_add-i c = omega arith
-
-pub loop-i-smaller : goal.loop-i-smaller
-loop-i-smaller c = omega arith
-
 pub loop-i-preserved : goal.loop-i-preserved
 loop-i-preserved c = let a = c.args in
     let l = c.loop-i in (
