@@ -13,17 +13,8 @@ pub loop-u-init : goal.loop-u-init
 unfolding count
 loop-u-init c = (omega arith, refl)
 
-pub bounds-f-u : goal.bounds-f-u
-bounds-f-u c = omega arith
-
 pub overflow_add-c : goal.overflow_add-c
 overflow_add-c c = let l = c.loop-u in omega (arith, l.invariant.1, count-le (flag c.args.f) l.u)
-
-pub overflow_add-u : goal.overflow_add-u
-overflow_add-u c = omega arith
-
-pub loop-u-smaller : goal.loop-u-smaller
-loop-u-smaller c = omega arith
 
 pub loop-u-preserved : goal.loop-u-preserved
 loop-u-preserved c = let l = c.loop-u in

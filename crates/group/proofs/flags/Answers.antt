@@ -16,20 +16,8 @@ pub loop-i-init : goal.loop-i-init
 unfolding any
 loop-i-init c = (omega arith, refl, λ u h. none-set u h)
 
-pub offset_bounds-missing-i : goal.offset_bounds-missing-i
-offset_bounds-missing-i c = omega arith
-
-pub bounds-missing-i : goal.bounds-missing-i
-bounds-missing-i c = omega arith
-
 pub bounds-f-x : goal.bounds-f-x
 bounds-f-x c = c.requires c.loop-i.i c.loop-i-test.true
-
-pub overflow_add-i : goal.overflow_add-i
-overflow_add-i c = omega arith
-
-pub loop-i-smaller : goal.loop-i-smaller
-loop-i-smaller c = omega arith
 
 pub loop-i-preserved : goal.loop-i-preserved
 loop-i-preserved c = let l = c.loop-i in

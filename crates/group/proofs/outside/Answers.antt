@@ -16,12 +16,6 @@ use Rattle.group.proofs.outside.Goals as goal
 pub loop-i-init : goal.loop-i-init
 loop-i-init c = (omega arith, λ k h. absurd (not-suc-le-zero h))
 
-pub offset_bounds-missing-i : goal.offset_bounds-missing-i
-offset_bounds-missing-i c = omega arith
-
-pub bounds-missing-i : goal.bounds-missing-i
-bounds-missing-i c = omega arith
-
 pub returns-then-m-missing : goal.returns-then-m-missing
 returns-then-m-missing c = let m = c.args.missing.now in
     let i = c.loop-i.i in
@@ -29,12 +23,6 @@ returns-then-m-missing c = let m = c.args.missing.now in
     (λ (t : each_below c.args.m m ≡ true).
     clash (ltb (get_or m i 0) c.args.m) (all-at (λ k. ltb (get_or m k 0) c.args.m) (length m) t i c.loop-i-test.true) (le-ltb (get_or m i 0) c.args.m c.if-m-missing.true)) in
     sym (ap (λ (t : Bool). unless t 4) e)
-
-pub overflow_add-i : goal.overflow_add-i
-overflow_add-i c = omega arith
-
-pub loop-i-smaller : goal.loop-i-smaller
-loop-i-smaller c = omega arith
 
 pub loop-i-preserved : goal.loop-i-preserved
 loop-i-preserved c = (omega arith, below_more _ _ c.loop-i.invariant.1 (let w = c.if-m-missing.false in omega arith))
