@@ -1,4 +1,4 @@
--- What the tests of the two calls say, and that each way out of them is what the promise says.
+-- What the tests of the two calls say, and that each way out of the writer is what its promise says.
 use Rattle.std.specs.Prelude.{◌≡◌, Bool, List, [], ◌∷◌, eqb, length}
 use Rattle.std.proofs.Math.Path.{refl, sym, ap}
 use Rattle.std.proofs.Common.{◌∙◌, arith, eqb-true, eq-eqb, ne_eqb}
@@ -10,8 +10,8 @@ use Rattle.numbers.specs.declared.Layout.{Layout}
 use Rattle.numbers.specs.Layouts.{Valid, image_length}
 use Rattle.numbers.specs.Refused.{validb, valid_of}
 use Rattle.pool_text.specs.Text.{text_length, pool_text}
-use Rattle.pool_text.specs.Reading.{first_wrong, text_image}
-use Rattle.pool_text.specs.TextCalls.{image_tests, image_refusal, write_text_refusal, text_written, WritesText, read_text_refusal, wrong_line, image_read, ReadsText}
+use Rattle.pool_text.specs.Reading.{first_wrong}
+use Rattle.pool_text.specs.TextCalls.{image_tests, image_refusal, write_text_refusal, text_written, WritesText, read_text_refusal, wrong_line}
 
 -- what both calls know of layout and image once they have been tested
 pub record ImageTested (y : Layout) (len : ℕ) : Type 0 where
@@ -58,45 +58,6 @@ module _ (y : Layout) (image old : List ℕ) where
         record { answer = sym z; text = sym (grant_yes (write_text_refusal y (length image) (length old)) _ _ z) }
 
 -- ---- the reader
-
-module _ (y : Layout) (old text : List ℕ) where
-  abbrev wrong_text : ℕ
-  wrong_text = refusal_by ((eqb (first_wrong y text) 0, 12) ∷ [])
-
-  read_parts : read_text_refusal y (length old) text ≡ image_refusal y (length old) or_else wrong_text
-  unfolding read_text_refusal image_refusal
-  read_parts = refusal_append (image_tests y (length old) []) ((eqb (first_wrong y text) 0, 12) ∷ [])
-
-  refused_image : (n : ℕ) → (n ≡ 0 → ⊥) → n ≡ read_text_refusal y (length old) text → zeros (length old) ≡ image_read y (length old) text
-  unfolding image_read
-  refused_image n f e = sym (grant_no (read_text_refusal y (length old) text) _ _ (λ z. f (e ∙ z)))
-
-  pub reads_untested : (n : ℕ) → n ≡ image_refusal y (length old) → (n ≡ 0 → ⊥) → ReadsText y old text n 0 (zeros (length old))
-  unfolding wrong_line
-  reads_untested n e f =
-      let r = e ∙ sym (or_else_left (image_refusal y (length old)) wrong_text (λ z. f (e ∙ z))) ∙ sym read_parts in
-      record { answer = r; first_wrong_lem = sym (grant_no (image_refusal y (length old)) _ 0 (λ z. f (e ∙ z))); image = refused_image n f r }
-
-  module _ (tested : image_refusal y (length old) ≡ 0) where
-    the_line : wrong_line y (length old) text ≡ first_wrong y text
-    unfolding wrong_line
-    the_line = grant_yes (image_refusal y (length old)) _ 0 tested
-
-    pub reads_wrong : (n : ℕ) → n ≡ first_wrong y text → (n ≡ 0 → ⊥) → ReadsText y old text 12 n (zeros (length old))
-    unfolding refusal_by ◌or_else◌
-    reads_wrong n e f =
-        let r =
-        read_parts ∙ or_else_right (image_refusal y (length old)) wrong_text tested
-        ∙ ap (λ t. refusal_by ((t, 12) ∷ [])) (ne_eqb (first_wrong y text) 0 (λ z. f (e ∙ z))) in
-        record { answer = sym r; first_wrong_lem = e ∙ sym the_line; image = refused_image 12 (λ z. absurd (omega (arith, z))) (sym r) }
-
-    pub reads_right : 0 ≡ first_wrong y text → ReadsText y old text 0 0 (text_image y text)
-    unfolding image_read refusal_by ◌or_else◌
-    reads_right e =
-        let z =
-        read_parts ∙ or_else_right (image_refusal y (length old)) wrong_text tested
-        ∙ ap (λ t. refusal_by ((t, 12) ∷ [])) (eq-eqb (first_wrong y text) 0 (sym e)) in
-        record { answer = sym z; first_wrong_lem = e ∙ sym the_line; image = sym (grant_yes (read_text_refusal y (length old) text) _ _ z) }
 
 -- the line: with 12 it is the first wrong one, with every other number it is 0
 module _ (y : Layout) (len : ℕ) (text : List ℕ) where

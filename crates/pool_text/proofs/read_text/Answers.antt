@@ -5,7 +5,8 @@ use mathlib.Core.List.{List}
 use native.Mathlib.Omega.{arith}
 use Rattle.lists.specs.Tabulate.{zeros}
 use Rattle.pool_text.specs.TextCalls.{ReadsText}
-use Rattle.pool_text.specs.CallLaws.{image_tested, reads_untested, reads_wrong, reads_right}
+use Rattle.pool_text.specs.CallLaws.{image_tested}
+use Rattle.pool_text.proofs.CallLaws.{reads_untested, reads_wrong, reads_right}
 use Rattle.pool_text.proofs.read_text.Goals as goal
 
 pub returns-then-refusal-ne0 : goal.returns-then-refusal-ne0
