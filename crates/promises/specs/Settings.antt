@@ -19,8 +19,10 @@ use Rattle.settings.specs.Settings.{is_version, knows, setting_line, version_of,
 use Rattle.settings.specs.Calls.{add_tests, add_refusal, added_of, add_buffer, Adds, used_lines, first_malformed, newest_line, read_tests, read_refusal, settings_of}
 use Rattle.settings.specs.LineLaws as L
 use Rattle.settings.specs.ScanLaws as N
+use Rattle.settings.proofs.ScanLaws as NProofs
 use Rattle.settings.specs.CallLaws as C
 use Rattle.settings.specs.TextLaws as T
+use Rattle.settings.proofs.TextLaws as TProofs
 use Rattle.promises.specs.Tight.{same}
 
 -- ---- a record and its line
@@ -146,10 +148,10 @@ module _ (version : ℕ) (y : Layout) (buffer : List ℕ) (used : ℕ) (x : Adde
           record { known = a.version_known; valid = a.valid; edition = le-leb y.edition version a.edition_known; cookie = word }
 
       pub add_settings_lines : used_lines new x.used ≡ used_lines buffer used ++ line ∷ []
-      add_settings_lines = ap lines_of text_is ∙ T.lines_more (take used buffer) line right (L.line_setting version y added)
+      add_settings_lines = ap lines_of text_is ∙ TProofs.lines_more (take used buffer) line right (L.line_setting version y added)
 
       pub add_settings_right : first_malformed (used_lines new x.used) ≡ 0
-      add_settings_right = ap first_malformed add_settings_lines ∙ T.malformed_more (used_lines buffer used) line right (L.line_setting version y added)
+      add_settings_right = ap first_malformed add_settings_lines ∙ TProofs.malformed_more (used_lines buffer used) line right (L.line_setting version y added)
 
       newest_added : setting_layout (newest_line (used_lines new x.used)) ≡ y
       newest_added = ap setting_layout (ap newest_line add_settings_lines ∙ T.newest_more (used_lines buffer used) line) ∙ L.line-layout version y added
@@ -222,7 +224,7 @@ module _ (reader : ℕ) (buffer : List ℕ) (used : ℕ) (s : Settings) (p : s �
   pub read_settings_line : s.refusal ≡ 12 → T.FirstMalformed lines s.line
   read_settings_line e =
       subst⁻¹ (T.FirstMalformed lines) (line_is ∙ pick_true (eqb (read_refusal reader buffer used) 12) (first_malformed lines) 0 (eq-eqb _ 12 (sym read_number ∙ e)))
-      (T.malformed_first lines)
+      (TProofs.malformed_first lines)
 
   pub read_settings_no_line : (s.refusal ≡ 12 → ⊥) → s.line ≡ 0
   read_settings_no_line f = line_is ∙ pick-false (eqb (read_refusal reader buffer used) 12) (first_malformed lines) 0 (ne_eqb _ 12 (λ e. f (read_number ∙ e)))
@@ -250,7 +252,7 @@ module _ (reader : ℕ) (buffer : List ℕ) (used : ℕ) (s : Settings) (p : s �
         right = none;
         known = subst⁻¹ (λ (x : Layout). x.edition ≤ reader) is (leb-true _ reader t.1.1.1.0);
         shown = is;
-        valid = subst⁻¹ Valid is (L.setting_valid (newest_line lines) (N.newest_setting lines many none));
+        valid = subst⁻¹ Valid is (L.setting_valid (newest_line lines) (NProofs.newest_setting lines many none));
       }
 
 -- "11 if there is none": no line at all
@@ -341,7 +343,7 @@ module _ (buffer : List ℕ) (used : ℕ) (old new : Settings) (p : old ≡ sett
       (λ b some z.
       below_or_not 1 newest.edition
       (λ (above : 1 < newest.edition).
-      let most = (L.setting_valid (newest_line (used_lines buffer used)) (N.newest_setting (used_lines buffer used) some z)).few_editions in
+      let most = (L.setting_valid (newest_line (used_lines buffer used)) (NProofs.newest_setting (used_lines buffer used) some z)).few_editions in
       let is = q ∙ sym (C.read_shown 2 buffer used b some z {y = newest} refl most) in
       (ap (λ (x : Settings). x.refusal) is, ap (λ (x : Settings). x.layout.edition) is ∙ omega (arith, above, most)))
       (λ (most : newest.edition ≤ 1).

@@ -15,11 +15,10 @@ use Rattle.trace.specs.Fields.{field_line, number_fields}
 use Rattle.trace.specs.FieldLaws.{end_of}
 use Rattle.line_cursor.specs.Lines.{lines_of}
 use Rattle.line_cursor.specs.LineLaws.{no_lines, lines_first}
-use Rattle.settings.specs.Settings.{is_version, setting_fields, setting_numbers, setting_line, setting_layout, has_form}
+use Rattle.settings.specs.Settings.{is_version, setting_fields, setting_numbers, setting_line, setting_layout}
 use Rattle.settings.specs.Calls.{add_tests, add_refusal, added_of, add_buffer, Adds, used_lines, first_malformed, newest_line, read_tests, read_refusal, settings_of}
 use Rattle.settings.specs.Scan.{Scans, refused_with}
-use Rattle.settings.specs.LineLaws.{line_long, setting_long, setting_end, setting_form}
-use Rattle.settings.specs.ScanLaws.{newest_setting}
+use Rattle.settings.specs.LineLaws.{line_long, setting_long, setting_end}
 
 -- ---- adding
 
@@ -188,7 +187,7 @@ module _ (reader : ℕ) (buffer : List ℕ) (used : ℕ) where
       abbrev found : List ℕ
       found = take (used - begins) (drop begins buffer)
 
-      found-line : found ≡ newest_line ls
+      pub found-line : found ≡ newest_line ls
       found-line =
           let b = found_inside in
           let e : used ≡ begins + (used - begins) = omega (arith, b) in
@@ -197,9 +196,6 @@ module _ (reader : ℕ) (buffer : List ℕ) (used : ℕ) where
 
       right : first_malformed ls ≡ 0
       right = sym s.wrong ∙ z
-
-      pub found_form : has_form found ≡ true
-      found_form = ap has_form found-line ∙ setting_form (newest_line ls) (newest_setting ls (some_lines h some) right)
 
       module _ {y : Layout} (q : y ≡ setting_layout found) where
         pub found_unknown : reader < y.edition → refused_with 17 0 ≡ settings_of reader buffer used

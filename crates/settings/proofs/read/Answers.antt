@@ -3,7 +3,8 @@ use mathlib.Core.Path.{sym, ◌∙◌}
 use Prim.Native.Nat.{◌≤◌}
 use native.Mathlib.Omega.{arith}
 use lib.Seq.{length-take-le}
-use Rattle.settings.specs.CallLaws.{read_outside, read_none, found_inside, found_malformed, found_form, found_unknown, found-shown}
+use Rattle.settings.specs.CallLaws.{read_outside, read_none, found_inside, found_malformed, found_unknown, found-shown}
+use Rattle.settings.proofs.CallLaws.{found_form}
 use Rattle.settings.proofs.read.Goals as goal
 
 -- the newest line begins in the used part

@@ -2,7 +2,8 @@
 use mathlib.Core.Path.{sym, ◌∙◌}
 use native.Mathlib.Omega.{arith}
 use Rattle.line_cursor.specs.CursorLaws.{end-le, end_more}
-use Rattle.settings.specs.ScanLaws.{scan_begin, scan_stops, scan_turn, scan_done}
+use Rattle.settings.specs.ScanLaws.{scan_begin, scan_done}
+use Rattle.settings.proofs.ScanLaws.{scan_stops, scan_turn}
 use Rattle.settings.proofs.scan.Goals as goal
 
 pub loop-from-init : goal.loop-from-init

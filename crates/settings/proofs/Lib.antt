@@ -1,0 +1,3 @@
+pub mod ScanLaws
+pub mod CallLaws
+pub mod TextLaws
