@@ -83,5 +83,8 @@ pub examples :
     × (lost 0 ∷ lost 1 ∷ lost 2 ∷ lost 3 ∷ [] ≡ (false ∷ false ∷ []) ∷ (false ∷ false ∷ []) ∷ (true ∷ false ∷ []) ∷ (false ∷ true ∷ []) ∷ [])
     × (new_home 2 0 ∷ new_home 3 1 ∷ [] ≡ at 2 2 ∷ at 2 0 ∷ [])
     × (data_on 0 3 ∷ data_on 3 0 ∷ data_on 4 0 ∷ [] ≡ 4 ∷ 4 ∷ 3 ∷ [])
-unfolding count sum tabulate ◌or_else◌ refusal_by gcd gcd_in lcm block rows groups validb layout_refusal start_of next_of advanced extra begin_of draw_of own exchange shuffle_of permutation_of tile_permutation index_of inverse_of frame_of target_of group_at unit_at place_of unit_of group_of unit_in byte_in spot_of image_byte any all lowest listed free move homes record_good home missing on_target otherwise fail_refusal fail_record ◌⊕◌ mul mul_digits double scale inv power_digits div coef sum_to parity_of content content_byte encoded_of encode_refusal encoded
+unfolding count sum tabulate ◌or_else◌ refusal_by gcd gcd_in lcm block rows groups validb layout_refusal start_of next_of advanced extra begin_of
+    draw_of own exchange shuffle_of permutation_of tile_permutation index_of inverse_of frame_of target_of group_at unit_at place_of unit_of group_of
+    unit_in byte_in spot_of image_byte any all lowest listed free move homes record_good home missing on_target otherwise fail_refusal fail_record ◌⊕◌
+    mul mul_digits double scale inv power_digits div coef sum_to parity_of content content_byte encoded_of encode_refusal encoded
 examples = (refl, refl, refl, refl, refl, refl, refl, refl, refl, refl, refl, refl, refl, refl, refl, refl, refl, refl)

@@ -14,8 +14,7 @@ use Rattle.homes.specs.Listed.{listed}
 use Rattle.homes.specs.Records.{entry, failed, record_good}
 use Rattle.homes.specs.RecordLaws.{record_good_lem}
 use Rattle.homes.specs.Missing.{target_at, home, missing}
-use Rattle.homes.specs.MissingLaws as H
-use Rattle.homes.proofs.MissingLaws as HProofs
+use Rattle.homes.proofs.MissingLaws as H
 use Rattle.pool.specs.Contents.{stored, content_byte, file_byte}
 use Rattle.pool.specs.Refusals.{range_refusal, fail_refusal}
 use Rattle.pool.specs.Reading.{read_out}
@@ -30,21 +29,21 @@ module _ (y : Layout) (valid : Valid y) (R : Record) (g : ℕ) where
   pub spare_exists : (j c : ℕ) → j < y.k → c < contents y → target_at y g (home y R j g c) ≡ entry R j
       → (i : ℕ) × (i < y.k) × (home y R (suc j) g c ≡ contents y + i) × ((d : ℕ) → d < contents y → home y R j g d ≡ contents y + i → ⊥)
       × (listed (entry R) (suc j) (target_at y g (contents y + i)) ≡ false)
-  spare_exists = HProofs.home_moves_lem y valid R g
+  spare_exists = H.home_moves_lem y valid R g
 
   module _ (j : ℕ) (few : j ≤ y.k) where
     -- under at most K entries no two contents of a group share a drive, and none lies on a listed one
     pub homes_apart : (c c' : ℕ) → c < contents y → c' < contents y → target_at y g (home y R j g c) ≡ target_at y g (home y R j g c') → c ≡ c'
-    homes_apart = HProofs.home_targets y valid R g j few
+    homes_apart = H.home_targets y valid R g j few
 
     pub homes_alive : (c : ℕ) → c < contents y → listed (entry R) j (target_at y g (home y R j g c)) ≡ false
-    homes_alive = HProofs.home_alive y valid R g j few
+    homes_alive = H.home_alive y valid R g j few
 
   -- with a record that is not refused with 3
   module _ (good : record_good y R ≡ true) where
     -- at most K contents of a group are missing
     pub few-missing : count (missing y R g) (contents y) ≤ y.k
-    few-missing = HProofs.few-missing y valid R g (record_good_lem y R good)
+    few-missing = H.few-missing y valid R g (record_good_lem y R good)
 
     module _ (img : List ℕ) (o : ℕ) (bytes : (c : ℕ) → c < contents y → stored y R img g o c < 256) where
       -- at each unit offset o some data bytes agree with the N lowest present contents; a missing content's byte is what they encode to, and a

@@ -23,8 +23,7 @@ use Rattle.pool.proofs.ChangesLaws.{repair_changes, repair_spares_failed}
 use Rattle.pool.proofs.BlindLaws.{read_blind, prepare_blind, show_blind}
 use Rattle.pool.specs.Elsewhere.{unseen, AgreeElsewhere, agree_of}
 use Rattle.pool.proofs.ElsewhereKeptLaws.{write_elsewhere, fail_elsewhere, repair_elsewhere, write_spares_unseen}
-use Rattle.pool.specs.Unread as U
-use Rattle.pool.proofs.UnreadLaws as UProofs
+use Rattle.pool.proofs.UnreadLaws as U
 use Rattle.pool.specs.Unread.{Alike}
 use Rattle.pool_look.specs.Shown.{shown_at}
 use Rattle.pool_look.specs.Looks as L
@@ -107,17 +106,17 @@ module _ (y : Layout) (R : Record) (img : List ℕ) (x : ℕ) (in_image : x < le
 module _ (y : Layout) (R R' : Record) (alike : Alike R R') (img : List ℕ) where
   pub read_unread : (offset size : ℕ)
       → (range_refusal y R (length img) offset size ≡ range_refusal y R' (length img) offset size) × (read_out y R img offset size ≡ read_out y R' img offset size)
-  read_unread offset size = (UProofs.range_unread y R R' alike (length img) offset size, UProofs.read_unread y R R' alike img offset size)
+  read_unread offset size = (U.range_unread y R R' alike (length img) offset size, U.read_unread y R R' alike img offset size)
 
   pub write_unread : (offset : ℕ) (bytes : List ℕ)
       → (range_refusal y R (length img) offset (length bytes) ≡ range_refusal y R' (length img) offset (length bytes))
       × (write_image y R img offset bytes ≡ write_image y R' img offset bytes)
-  write_unread offset bytes = (UProofs.range_unread y R R' alike (length img) offset (length bytes), UProofs.write_unread y R R' alike img offset bytes)
+  write_unread offset bytes = (U.range_unread y R R' alike (length img) offset (length bytes), U.write_unread y R R' alike img offset bytes)
 
   -- a record has room for three entries
   pub fail_unread : length R.failed ≡ 3 → length R'.failed ≡ 3 → (target : ℕ)
       → (fail_refusal y R (length img) target ≡ fail_refusal y R' (length img) target) × Alike (fail_record y R (length img) target) (fail_record y R' (length img) target)
-  fail_unread three three' target = (UProofs.fail_number_unread y R R' alike (length img) target, UProofs.fail_unread y R R' alike three three' (length img) target)
+  fail_unread three three' target = (U.fail_number_unread y R R' alike (length img) target, U.fail_unread y R R' alike three three' (length img) target)
 
   pub repair_unread :
       (repair_refusal y R (length img) ≡ repair_refusal y R' (length img))
@@ -125,10 +124,10 @@ module _ (y : Layout) (R R' : Record) (alike : Alike R R') (img : List ℕ) wher
       × Alike (repair_record y R (length img)) (repair_record y R' (length img))
       × (repair_image y R img ≡ repair_image y R' img)
   repair_unread = (
-    UProofs.repair_number_unread y R R' alike (length img),
-    UProofs.count_unread y R R' alike (length img),
-    UProofs.mended_unread y R R' alike (length img),
-    UProofs.repair_unread y R R' alike img,
+    U.repair_number_unread y R R' alike (length img),
+    U.count_unread y R R' alike (length img),
+    U.mended_unread y R R' alike (length img),
+    U.repair_unread y R R' alike img,
   )
 
   pub panel_unread :
@@ -137,24 +136,24 @@ module _ (y : Layout) (R R' : Record) (alike : Alike R R') (img : List ℕ) wher
       × (panel_shows y R (length img) R.k ≡ panel_shows y R' (length img) R'.k)
       × (panel_shows y R (length img) R.q ≡ panel_shows y R' (length img) R'.q)
   panel_unread = (
-    UProofs.repair_number_unread y R R' alike (length img),
-    UProofs.panel_unread y R R' alike (length img) R.waiting R'.waiting alike.same_waiting,
-    UProofs.panel_unread y R R' alike (length img) R.k R'.k alike.same_k,
-    UProofs.panel_unread y R R' alike (length img) R.q R'.q alike.same_q,
+    U.repair_number_unread y R R' alike (length img),
+    U.panel_unread y R R' alike (length img) R.waiting R'.waiting alike.same_waiting,
+    U.panel_unread y R R' alike (length img) R.k R'.k alike.same_k,
+    U.panel_unread y R R' alike (length img) R.q R'.q alike.same_q,
   )
 
   pub audit_unread : audit_refusal y R (length img) ≡ audit_refusal y R' (length img)
-  audit_unread = UProofs.audit_unread y R R' alike (length img)
+  audit_unread = U.audit_unread y R R' alike (length img)
 
   pub prepare_unread : (room group content : ℕ)
       → (look_refusal y R (length img) room group content ≡ look_refusal y R' (length img) room group content)
       × (look_scratch y R img room group content ≡ look_scratch y R' img room group content)
-  prepare_unread room group content = (UProofs.look_unread y R R' alike (length img) room group content, UProofs.prepare_unread y R R' alike img room group content)
+  prepare_unread room group content = (U.look_unread y R R' alike (length img) room group content, U.prepare_unread y R R' alike img room group content)
 
   pub show_unread : (scratch : List ℕ) (group content : ℕ)
       → (look_refusal y R (length img) (length scratch) group content ≡ look_refusal y R' (length img) (length scratch) group content)
       × (look_shown y R img scratch group content ≡ look_shown y R' img scratch group content)
-  show_unread scratch group content = (UProofs.look_unread y R R' alike (length img) (length scratch) group content, UProofs.show_unread y R R' alike img scratch group content)
+  show_unread scratch group content = (U.look_unread y R R' alike (length img) (length scratch) group content, U.show_unread y R R' alike img scratch group content)
 
   pub locate_unread : (room group content : ℕ) → shown_at y R (length img) room group content ≡ shown_at y R' (length img) room group content
   locate_unread = L.locate_unread y R R' alike (length img)

@@ -64,5 +64,9 @@ pub move_examples :
     × (move_refusal three (record { failed = 3 ∷ 0 ∷ 0 ∷ []; k = 1; q = 0; waiting = 0 }) 6 6 ≡ 3)
     × (move_refusal three (record { failed = 3 ∷ 0 ∷ 0 ∷ []; k = 1; q = 0; waiting = 0 }) 6 7 ≡ 2)
     × (move_refusal (record { n = 1; k = 1; p = 3; u = 2; t = 1; cookie = 0; edition = 3 }) none 5 5 ≡ 1)
-unfolding tabulate count sum those any all lowest ◌or_else◌ refusal_by gcd gcd_in lcm block rows groups validb other_edition start_of next_of advanced extra begin_of draw_of own exchange shuffle_of permutation_of index_of inverse_of tile_permutation frame_of target_of group_at unit_at place_of unit_of group_of unit_in byte_in offset_of spot_of target_here frame_here offset_here unit_here ◌⊕◌ double scale mul_digits mul power_digits inv div sum_to coef cof det row inverse sol system_entry parity_of content left known data_of rebuilt listed free move homes record_good home missing stored content_byte file_byte encoded fresh_byte fresh_image shown_file move_refusal move_image
+unfolding tabulate count sum those any all lowest ◌or_else◌ refusal_by gcd gcd_in lcm block rows groups validb other_edition start_of next_of advanced
+    extra begin_of draw_of own exchange shuffle_of permutation_of index_of inverse_of tile_permutation frame_of target_of group_at unit_at place_of
+    unit_of group_of unit_in byte_in offset_of spot_of target_here frame_here offset_here unit_here ◌⊕◌ double scale mul_digits mul power_digits inv
+    div sum_to coef cof det row inverse sol system_entry parity_of content left known data_of rebuilt listed free move homes record_good home missing
+    stored content_byte file_byte encoded fresh_byte fresh_image shown_file move_refusal move_image
 move_examples = (refl, refl, refl, refl, refl, refl, refl, refl, refl, refl, refl)

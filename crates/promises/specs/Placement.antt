@@ -48,7 +48,7 @@ module _ (y : Widths) (tiled : Tiled y) (π ρ : ℕ → ℕ → ℕ) (undo : (t
 -- ---- for a layout
 
 module _ (y : Layout) (valid : Valid y) where
-  -- W-as-C = P-as-L = B
+  -- W·C = P·L = B
   pub shape : (width y * groups y ≡ block y) × (y.p * rows y ≡ block y)
   shape = (width-groups y valid, targets_rows y valid)
 

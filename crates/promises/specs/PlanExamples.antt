@@ -65,5 +65,7 @@ pub plan_examples :
     × (plan_good wider failed2 (0 ∷ 0 ∷ 1 ∷ 2 ∷ []) ≡ true)
     × (plan_good wider failed2 (0 ∷ 0 ∷ 2 ∷ 1 ∷ []) ≡ true)
     × (plan_good wider failed2 (0 ∷ 0 ∷ 1 ∷ 1 ∷ []) ≡ false)
-unfolding tabulate count sum those any all lowest gcd gcd_in lcm block rows groups start_of next_of advanced extra begin_of draw_of own exchange shuffle_of permutation_of tile_permutation frame_of target_of place_of listed free move homes home missing entries number_of names named_once each_once source_good sources_good names_missing plan_good missing_pair missing_units group_drawn content_drawn entry_number drawn_plan
+unfolding tabulate count sum those any all lowest gcd gcd_in lcm block rows groups start_of next_of advanced extra begin_of draw_of own exchange
+    shuffle_of permutation_of tile_permutation frame_of target_of place_of listed free move homes home missing entries number_of names named_once
+    each_once source_good sources_good names_missing plan_good missing_pair missing_units group_drawn content_drawn entry_number drawn_plan
 plan_examples = (refl, refl, refl, refl, refl, refl, refl, refl, refl, refl, refl, refl, refl, refl, refl, refl, refl)

@@ -44,8 +44,7 @@ use Rattle.proposal.specs.Calls.{RepairsBy, ChecksPlan, Draws}
 use Rattle.proposal.proofs.AcceptedLaws.{plan_accepts, accepts_good, accepts_count}
 use Rattle.proposal.specs.RunningLaws as L
 use Rattle.proposal.proofs.RunningLaws as LProofs
-use Rattle.proposal.specs.DrawingLaws as D
-use Rattle.proposal.proofs.DrawingLaws as DProofs
+use Rattle.proposal.proofs.DrawingLaws as D
 use Rattle.proposal.proofs.PlanHolds as H
 use Rattle.proposal.proofs.PlanUnread as U
 use Rattle.promises.specs.Refusals.{pool_table}
@@ -244,10 +243,10 @@ pub drawn_repairs : (y : Layout) (R : Record) (img : List ℕ) (n count : ℕ) (
     → Repairs y R img n count R' img'
 drawn_repairs y R img n count R' img' p =
     record {
-      answer = p.answer ∙ DProofs.drawn_refusal y R (length img);
-      pairs = p.pairs ∙ DProofs.drawn_count y R (length img);
-      rec = p.rec ∙ DProofs.drawn_record y R (length img);
-      image = p.image ∙ DProofs.drawn_image y R img;
+      answer = p.answer ∙ D.drawn_refusal y R (length img);
+      pairs = p.pairs ∙ D.drawn_count y R (length img);
+      rec = p.rec ∙ D.drawn_record y R (length img);
+      image = p.image ∙ D.drawn_image y R img;
     }
 
 module _ (y : Layout) (R : Record) (img buf : List ℕ) (n count : ℕ) (buf' : List ℕ) (p : Draws y R img buf n count buf') where
@@ -270,17 +269,17 @@ module _ (y : Layout) (R : Record) (img buf : List ℕ) (n count : ℕ) (buf' : 
   unfolding draw_count
   draw_plan_wrote z =
       let yes : draw_refusal y R (length img) (length buf) ≡ 0 = sym p.answer ∙ z in
-      (p.written ∙ grant_yes _ (drawn_length y R) 0 yes, (λ i. take (p.written i) (p.numbers i)) ∙ DProofs.draw_wrote y R (length img) buf yes)
+      (p.written ∙ grant_yes _ (drawn_length y R) 0 yes, (λ i. take (p.written i) (p.numbers i)) ∙ D.draw_wrote y R (length img) buf yes)
 
   pub draw_plan_rest_stays : (x : ℕ) → count ≤ x → at buf' x ≡ at buf x
   draw_plan_rest_stays x h =
-      ap (λ (l : List ℕ). at l x) p.numbers ∙ DProofs.draw_rest y R (length img) buf x (subst⁻¹ (λ (m : ℕ). m ≤ x) (sym p.written) h)
+      ap (λ (l : List ℕ). at l x) p.numbers ∙ D.draw_rest y R (length img) buf x (subst⁻¹ (λ (m : ℕ). m ≤ x) (sym p.written) h)
 
   -- "Our planner's plans are always accepted": the plan as it stands in the buffer, on the same pool,
   pub drawn_accepted : n ≡ 0 → (m : ℕ) → ChecksPlan y R img (take count buf') m → m ≡ 0
   drawn_accepted z m q =
-      q.answer ∙ ap (plan_refusal y R (length img)) (draw_plan_wrote z).1 ∙ DProofs.drawn_refusal y R (length img)
-      ∙ DProofs.draw_sound y R (length img) buf (sym p.answer ∙ z)
+      q.answer ∙ ap (plan_refusal y R (length img)) (draw_plan_wrote z).1 ∙ D.drawn_refusal y R (length img)
+      ∙ D.draw_sound y R (length img) buf (sym p.answer ∙ z)
 
   -- and on any pool at all, whatever its bytes, repair by it is plain repair
   pub drawn_as_repair : n ≡ 0 → (m pairs : ℕ) (R' : Record) (img' : List ℕ) → RepairsBy y R img (take count buf') m pairs R' img' → Repairs y R img m pairs R' img'

@@ -1,6 +1,6 @@
 -- Document 02, order 4: a recorded trace replayed. "The program runs the events from a zero pool and prints each answer. .. A malformed line prints number
 -- 13 and the run goes on with the next line; a refused event leaves the pool as the table says. The end state equals that of the calls made directly."
-use Rattle.std.specs.Prelude.{◌≡◌, refl, Bool, true, List, [], ◌∷◌, ◌++◌, map, ℕ, zero, suc, ◌+◌, ◌-◌, ◌≤◌, ◌<◌, length, get_or, take, drop}
+use Rattle.std.specs.Prelude.{◌≡◌, refl, Bool, true, List, [], ◌∷◌, ◌++◌, map, ℕ, zero, suc, ◌-◌, ◌≤◌, ◌<◌, length, get_or, take, drop}
 use Rattle.std.proofs.Math.Path.{sym, ap, subst, subst⁻¹}
 use Rattle.std.proofs.Common.{◌∙◌, arith, take_at, drop_at, eq-eqb}
 use Rattle.lists.specs.Pick.{below_or_not, clash, not-both_ways}

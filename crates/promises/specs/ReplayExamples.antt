@@ -83,5 +83,12 @@ output =
     10 ∷ 48 ∷ 32 ∷ 52 ∷ 50 ∷ 10 ∷ []
 
 pub whole-trace : replay_output (lines_of trace) ≡ output
-unfolding tabulate any all lowest within count sum those ◌or_else◌ refusal_by gcd gcd_in lcm block rows groups validb start_of next_of advanced extra begin_of draw_of own exchange shuffle_of permutation_of tile_permutation index_of inverse_of frame_of target_of group_at unit_at place_of unit_of group_of unit_in byte_in offset_of spot_of target_here frame_here offset_here unit_here ◌⊕◌ mul mul_digits double scale inv power_digits div sum_to coef cof det row num inverse sol system_entry parity_of content left known data_of rebuilt listed free move homes record_good home missing hex_digit stored content_byte file_byte range_refusal on_target otherwise fail_refusal missing_units repair_refusal read_out owner cell_after storing touched writes laid write_image fail_record repair_image repair_record repair_count start is_digit digit_value hex_of number_at fields_at is_layout layout_at form_of kind_of bytes_of told_as told_of tenths places decimal printed lines_of first_refusal played_record played_image answer_of replay_prints replay_output
+unfolding tabulate any all lowest within count sum those ◌or_else◌ refusal_by gcd gcd_in lcm block rows groups validb start_of next_of advanced extra
+    begin_of draw_of own exchange shuffle_of permutation_of tile_permutation index_of inverse_of frame_of target_of group_at unit_at place_of unit_of
+    group_of unit_in byte_in offset_of spot_of target_here frame_here offset_here unit_here ◌⊕◌ mul mul_digits double scale inv power_digits div
+    sum_to coef cof det row num inverse sol system_entry parity_of content left known data_of rebuilt listed free move homes record_good home missing
+    hex_digit stored content_byte file_byte range_refusal on_target otherwise fail_refusal missing_units repair_refusal read_out owner cell_after
+    storing touched writes laid write_image fail_record repair_image repair_record repair_count start is_digit digit_value hex_of number_at fields_at
+    is_layout layout_at form_of kind_of bytes_of told_as told_of tenths places decimal printed lines_of first_refusal played_record played_image
+    answer_of replay_prints replay_output
 whole-trace = refl

@@ -68,6 +68,7 @@ pub setting_examples :
     × (settings_of 2 (set line2 1 51) 44 ≡ refused 12 1)
     × (settings_of 2 (set line2 1 49) 44 ≡ refused 12 1)
     × (settings_of 2 (set line1 22 49) 41 ≡ refused 12 1)
-unfolding tabulate hex_digit digits_of is_digit digit_value number_at within all fields_at field_line layout_at lines_of validb refusal_by ◌or_else◌ setting_line setting_layout is_setting add_refusal first_malformed read_refusal settings_of
+unfolding tabulate hex_digit digits_of is_digit digit_value number_at within all fields_at field_line layout_at lines_of validb refusal_by ◌or_else◌
+    setting_line setting_layout is_setting add_refusal first_malformed read_refusal settings_of
 setting_examples =
     (refl, refl, refl, refl, refl, refl, refl, refl, refl, refl, refl, refl, refl, refl, refl, refl, refl, refl, refl, refl, refl, refl)

@@ -1,7 +1,7 @@
 -- Document 02, order 11: settings with versions. A row's settings are a text of lines; nothing of a pool is touched, so none of the three calls is an
 -- event of demand 3's runs.
 use Rattle.std.specs.Prelude.{◌≡◌, refl, Bool, true, List, [], ◌∷◌, ◌++◌, ℕ, suc, ◌+◌, ◌-◌, ◌≤◌, ◌<◌, leb, eqb, ltb, take, drop}
-use Rattle.std.proofs.Common.{sym, ap₂, ◌∙◌, subst, append-nil, append_assoc, arith, length-append, length-drop, length-take-le}
+use Rattle.std.proofs.Common.{sym, ap₂, ◌∙◌, append-nil, append_assoc, arith, length-append, length-drop, length-take-le}
 use Rattle.std.proofs.Math.Path.{ap, subst⁻¹}
 use Rattle.std.proofs.Math.ListN.{length}
 use Rattle.std.proofs.Math.Seq.{take-append-add, take-append_seam, drop-append_seam}

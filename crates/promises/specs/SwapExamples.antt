@@ -44,7 +44,10 @@ pub swap_examples :
     × (swap_refusal three (one 3 1 0) 6 1 ∷ swap_refusal three (one 3 1 0) 5 1 ∷ [] ≡ 3 ∷ 2 ∷ [])
     × (swap_image three (one 1 0 1) (65 ∷ 66 ∷ 170 ∷ 187 ∷ 65 ∷ 66 ∷ []) 1 ≡ 65 ∷ 66 ∷ 170 ∷ 187 ∷ 65 ∷ 66 ∷ [])
     × (swap_record three (one 1 0 1) 6 1 ≡ one 1 0 1)
-unfolding tabulate any all lowest ◌or_else◌ refusal_by gcd gcd_in lcm block rows groups validb start_of next_of advanced extra begin_of draw_of own exchange shuffle_of permutation_of index_of inverse_of tile_permutation frame_of target_of group_at unit_at place_of unit_of spot_of target_here frame_here offset_here unit_here listed free move homes record_good entry_without home stored owner cell_after storing swap_refusal swap_image swap_record
+unfolding tabulate any all lowest ◌or_else◌ refusal_by gcd gcd_in lcm block rows groups validb start_of next_of advanced extra begin_of draw_of own
+    exchange shuffle_of permutation_of index_of inverse_of tile_permutation frame_of target_of group_at unit_at place_of unit_of spot_of target_here
+    frame_here offset_here unit_here listed free move homes record_good entry_without home stored owner cell_after storing swap_refusal swap_image
+    swap_record
 swap_examples = (refl, refl, refl, refl, refl, refl, refl, refl)
 
 -- ---- N=1, K=2, unit u on target u: contents 0, 1 and 2, spares 3 and 4

@@ -50,5 +50,6 @@ pub text_examples :
     × (first_wrong row (set text 40 65) ≡ 3)
     × (first_wrong row (set text 43 103) ≡ 3)
     × (first_wrong row (set text 44 13) ≡ 3)
-unfolding tabulate gcd gcd_in lcm block rows spot_of hex_digit line_char unit_byte pool_char pool_text within any all lowest is_digit digit_value char_right line_right text_right first_wrong text_byte text_image
+unfolding tabulate gcd gcd_in lcm block rows spot_of hex_digit line_char unit_byte pool_char pool_text within any all lowest is_digit digit_value
+    char_right line_right text_right first_wrong text_byte text_image
 text_examples = (refl, refl, refl, refl, refl, refl, refl, refl, refl, refl, refl)

@@ -1,4 +1,4 @@
--- "A walk over one target hands its cursor back after each frame, with the group and unit lying there, frames rising. At frame L-as-T it says done; a
+-- "A walk over one target hands its cursor back after each frame, with the group and unit lying there, frames rising. At frame L·T it says done; a
 -- cursor beyond that is 4. Done or refused, the cursor comes back unchanged." Of a step, in document 01's number, unit and cursor for every case of its
 -- answer (`number_of`, `says_done`, `unit_found`, `cursor_back`); of the walk from frame 0, that it visits each unit of its target once, in frame order.
 use Rattle.std.specs.Prelude.{◌≡◌, refl, Bool, true, false, ltb, leb, length, get_or}
@@ -50,7 +50,7 @@ module _ (y : Layout) (w : Cursor) where
   unfolding step_of
   step-refused = refused_keeps (walk_refusal y w) (ltb w.frame (frames y)) _ _ w
 
-  -- done: only at frame L-as-T, with number 0, no unit, and the cursor as it was
+  -- done: only at frame L·T, with number 0, no unit, and the cursor as it was
   pub step_says_done : says_done (step_of y w) ≡ true
       → (w.frame ≡ frames y) × (number_of (step_of y w) ≡ 0) × (unit_found (step_of y w) ≡ nowhere) × (cursor_back (step_of y w) ≡ w)
   unfolding step_of
