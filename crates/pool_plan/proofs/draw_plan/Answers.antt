@@ -1,7 +1,6 @@
 -- `pool_plan::draw_plan` meets its contract: refused, too short, or drawn.
 use mathlib.Core.Path.{sym, ◌∙◌}
 use native.Mathlib.Omega.{arith}
-use borrow.Author.Rules.{rules}
 use Rattle.pool.specs.Asked.{repair_asked}
 use Rattle.pool_plan.specs.Answers.{needed_is, drawn_few, draw_unasked, draw_short, draw_done}
 use Rattle.pool_plan.proofs.draw_plan.Goals as goal

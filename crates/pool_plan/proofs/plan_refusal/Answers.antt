@@ -1,6 +1,5 @@
 -- `pool_plan::plan_refusal` meets its contract: what every call tests first, then the checker.
 use mathlib.Core.Path.{sym, ◌∙◌}
-use borrow.Author.Rules.{rules}
 use Rattle.pool.specs.Asked.{repair_asked}
 use Rattle.pool_plan.specs.Answers.{plan_unasked, plan_passes, plan_fails}
 use Rattle.pool_plan.proofs.plan_refusal.Goals as goal

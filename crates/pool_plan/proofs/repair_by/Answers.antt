@@ -1,6 +1,5 @@
 -- `pool_plan::repair_by` meets its contract: refused, or accepted and run entry after entry.
 use native.Mathlib.Omega.{arith}
-use borrow.Author.Rules.{rules}
 use Rattle.proposal.specs.Plans.{entries}
 use Rattle.pool_plan.specs.Answers.{run-refused, run-asked, run-done}
 use Rattle.pool_plan.proofs.repair_by.Goals as goal
