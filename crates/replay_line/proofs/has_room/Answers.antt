@@ -6,8 +6,7 @@ use native.Mathlib.Omega.{arith}
 use borrow.Author.Tests.{lt-leb, le-leb}
 use lib.Dec.{leb}
 use Rattle.lists.specs.Pick.{below_or_not}
-use Rattle.replay_line.proofs.has_room_lem.Statement.{statement}
-use Rattle.replay_line.proofs.has_room_lem.Tie as tie
+use Rattle.replay_line.proofs.has_room.Goals as goal
 
 half : (len room : ℕ) → 24 ≤ room → leb len ((room - 24) / 2) ≡ leb (24 + 2 * len) room
 half len room h =
@@ -17,11 +16,8 @@ half len room h =
     (λ (k : room < 24 + 2 * len). lt-leb len ((room - 24) / 2) (omega (arith, e, m, k)) ∙ sym (lt-leb (24 + 2 * len) room k))
     (λ (k : 24 + 2 * len ≤ room). le-leb len ((room - 24) / 2) (omega (arith, e, m, k)) ∙ sym (le-leb (24 + 2 * len) room k))
 
-returns : tie.Need-returns
-returns c = sym (lt-leb (24 + 2 * c.before.args.image) c.before.args.answer (omega arith))
+pub returns-then-answer-lt24 : goal.returns-then-answer-lt24
+returns-then-answer-lt24 c = sym (lt-leb (24 + 2 * c.args.image) c.args.answer (omega arith))
 
-returns-2 : tie.Need-returns-2
-returns-2 c = half c.before.args.image c.before.args.answer (omega arith)
-
-pub has-room-spec : {M : Type 1} → statement M
-has-room-spec = tie.close (tie.spec returns returns-2)
+pub returns : goal.returns
+returns c = half c.args.image c.args.answer (omega arith)
