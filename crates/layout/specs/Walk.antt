@@ -1,4 +1,4 @@
--- "A walk over one target hands its cursor back after each frame, with the group and unit lying there, frames rising. At frame L-as-T it says
+-- "A walk over one target hands its cursor back after each frame, with the group and unit lying there, frames rising. At frame L·T it says
 -- done; a cursor beyond that is 4. Done or refused, the cursor comes back unchanged."
 use Rattle.std.specs.Prelude.{Bool, true, false, [], ◌∷◌, ℕ, ◌+◌, ltb, leb}
 use Rattle.lists.specs.Pick.{pick}

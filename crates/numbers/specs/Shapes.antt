@@ -1,4 +1,4 @@
--- W-as-C = P-as-L = B, and B is the least common multiple; bounds of all the numbers that follow.
+-- W·C = P·L = B, and B is the least common multiple; bounds of all the numbers that follow.
 use Rattle.std.specs.Prelude.{◌≡◌, ℕ, ◌*◌, ◌/◌, ◌≤◌, ◌<◌}
 use Rattle.std.proofs.Common.{sym, ◌∙◌, subst, inl, inr, mul-pos, eq-zero-or-pos, div-le_self, mul-le-mul, lt_irrefl, mul-zero, arith}
 use Rattle.std.proofs.Math.Path.{ap}

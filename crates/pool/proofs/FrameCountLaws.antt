@@ -1,4 +1,4 @@
--- The contents with their home on a target, counted by the frames of that target alone: L-as-T frames, where the pool has T·C·(N+K) contents.
+-- The contents with their home on a target, counted by the frames of that target alone: L·T frames, where the pool has T·C·(N+K) contents.
 use Rattle.std.specs.Prelude.{◌≡◌, refl, Bool, false, ℕ, ◌+◌, ◌*◌, ◌/◌, ◌%◌, ◌≤◌, ◌<◌, ltb}
 use Rattle.std.proofs.Math.Path.{sym, ap}
 use Rattle.std.proofs.Common.{◌∙◌, subst, mod-lt, zero-add, arith, eqb-true, eq-eqb, ne_eqb, lt-ltb, le-ltb}
@@ -138,7 +138,7 @@ module _ (y : Layout) (v : Valid y) (R : Record) (good : Good y R) (t : ℕ) (ta
       ∙ count_across {from = pair_in} (record { lands = to_frame; passes = to-home; back = to_and_back })
       (record { lands = from_frame; passes = from_home; back = from_and_back })
 
-  -- so a failure raises the count by at most L-as-T
+  -- so a failure raises the count by at most L·T
   pub on_target_few : on_target y R t ≤ frames y
   on_target_few = subst (λ (n : ℕ). n ≤ frames y) (sym on_target_by_frames) (count-le (home_in y R t) (frames y))
 

@@ -1,4 +1,4 @@
--- The contents with their home on a target, counted by the frames of that target alone: L-as-T frames, where the pool has T·C·(N+K) contents.
+-- The contents with their home on a target, counted by the frames of that target alone: L·T frames, where the pool has T·C·(N+K) contents.
 use Rattle.std.specs.Prelude.{◌≡◌, refl, Bool, false, ℕ, ◌+◌, ◌*◌, ◌/◌, ◌%◌, ◌≤◌, ◌<◌, ltb}
 use Rattle.std.proofs.Math.Path.{sym, ap}
 use Rattle.std.proofs.Common.{◌∙◌, subst, mod-lt, zero-add, arith, eqb-true, eq-eqb, ne_eqb, lt-ltb, le-ltb}

@@ -6,7 +6,7 @@ use Rattle.numbers.specs.Layouts.{frames, image_length}
 use Rattle.hex_text.specs.Hex.{line_char}
 use Rattle.hexline.specs.HexLine.{unit_byte, hex_line}
 
--- "11+2U bytes" a line; a line for each of the L-as-T frames of each of the P targets
+-- "11+2U bytes" a line; a line for each of the L·T frames of each of the P targets
 abbrev pub line_length : Layout → ℕ
 line_length y = 11 + 2 * y.u
 
