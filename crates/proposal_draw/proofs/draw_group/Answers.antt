@@ -8,7 +8,6 @@ use Rattle.homes.specs.declared.Record.{Record}
 use Rattle.proposal.specs.Plans.{entry_size}
 use Rattle.proposal_draw.specs.Drawn.{GroupAt, GroupTo, enough_there, group_begin, content-present, content_room, content-missing, group_end}
 use Rattle.proposal_draw.proofs.draw_group.Goals as goal
-use Rattle.proposal_draw.proofs.draw_group.Goals.{then-missing-c, else-missing-c}
 use Rattle.std.proofs.Common.{List, ℕ, Bool, ◌*◌, ◌<◌}
 use Rattle.numbers.specs.declared.Layout.{Layout}
 use Rattle.numbers.specs.declared.Shape.{Shape}
@@ -49,10 +48,10 @@ pub bounds-missing-c : goal.bounds-missing-c
 bounds-missing-c c = let v = c.requires.1.valid in omega (arith, c.loop-c-test.true, v.few_data, v.few_parity)
 
 pub draw_entry-requires : goal.draw_entry-requires
-draw_entry-requires c = let k = here _ _ _ _ _ _ _ _ c.requires c.stand_of-stand.ensures in (k.valid, enough_there _ _ _ _ _ _ k, room _ _ _ _ _ _ k _ _ _ (c.loop-c.invariant _ k) c.loop-c-test.true c.if-missing-c.true)
+draw_entry-requires c = let k = here _ _ _ _ _ _ _ _ c.requires c.stand_of-stand.ensures in (k.valid, enough_there _ _ _ _ _ _ k, room _ _ _ _ _ _ k _ _ _ (c.loop-c.invariant _ k) c.loop-c-test.true (cc))
 
 pub overflow_add-next : goal.overflow_add-next
-overflow_add-next c = let k = here _ _ _ _ _ _ _ _ c.requires c.stand_of-stand.ensures in omega (arith, room _ _ _ _ _ _ k _ _ _ (c.loop-c.invariant _ k) c.loop-c-test.true c.if-missing-c.true, (c.loop-c.invariant _ k).written.len)
+overflow_add-next c = let k = here _ _ _ _ _ _ _ _ c.requires c.stand_of-stand.ensures in omega (arith, room _ _ _ _ _ _ k _ _ _ (c.loop-c.invariant _ k) c.loop-c-test.true (cc), (c.loop-c.invariant _ k).written.len)
 
 pub overflow_add-c : goal.overflow_add-c
 overflow_add-c c = let v = c.requires.1.valid in omega (arith, c.loop-c-test.true, v.few_data, v.few_parity)
@@ -62,10 +61,10 @@ loop-c-smaller c = omega (arith, c.loop-c-test.true)
 
 pub loop-c-preserved : goal.loop-c-preserved
 loop-c-preserved c = λ R k.
-    elim c.if-missing-c.branch [
-      | then-missing-c w ↦ content-missing _ _ _ _ _ _ k _ _ _ (c.loop-c.invariant R k) c.loop-c-test.true w.if-missing-c.true _ _ _ w.draw_entry.ensures w.out-is w.next-is
-      | else-missing-c w ↦ content-present _ _ _ _ _ _ k _ _ _ (c.loop-c.invariant R k) c.loop-c-test.true w.if-missing-c.false _ _ w.out-is w.next-is
-    ]
+    let i = c.loop-c.invariant R k in
+    let missing = content-missing _ _ _ _ _ _ k _ _ _ i c.loop-c-test.true in
+    let present = content-present _ _ _ _ _ _ k _ _ _ i c.loop-c-test.true in
+    grind (arith, missing, present)
 
 pub shape_of-out : goal.shape_of-out
 shape_of-out c = (c.loop-c.invariant _ (here _ _ _ _ _ _ _ _ c.requires c.stand_of-stand.ensures)).written.len

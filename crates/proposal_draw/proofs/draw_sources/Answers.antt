@@ -5,7 +5,8 @@ use Prim.Native.Nat.{◌<◌}
 use native.Mathlib.Omega.{arith}
 use Rattle.proposal_draw.specs.Entry.{sources_begin, content-left, source-missing, source-present, sources_end}
 use Rattle.proposal_draw.proofs.draw_sources.Goals as goal
-use Rattle.proposal_draw.proofs.draw_sources.Goals.{then-not-missing-u, else-not-missing-u}
+use Rattle.std.proofs.Common.{◌≡◌, true, false}
+use Rattle.parity.specs.Matrix.{flag}
 
 -- a content
 turn : (c : goal.In-loop-j) → c.loop-j.u < c.args.m
@@ -36,12 +37,11 @@ pub loop-j-smaller : goal.loop-j-smaller
 loop-j-smaller c = omega (arith, turn c.before)
 
 pub loop-j-preserved : goal.loop-j-preserved
-loop-j-preserved c = let p = c.requires in
+loop-j-preserved c =
     let l = c.loop-j in
-    elim c.if-not-missing-u.branch [
-      | then-not-missing-u w ↦ source-present _ _ _ _ _ _ _ _ l.invariant c.loop-j-test.true p.1 p.2 (ap not w.if-not-missing-u.true) _ _ w.out-is w.j-is
-      | else-not-missing-u w ↦ source-missing _ _ _ _ _ _ _ _ l.invariant c.loop-j-test.true p.1 (ap not w.if-not-missing-u.false) _ _ w.out-is w.j-is
-    ]
+    let present = λ (t : flag c.args.missing l.u ≡ false). source-present _ _ _ _ _ _ _ _ l.invariant c.loop-j-test.true c.requires.1 c.requires.2 (ap not t) in
+    let missing = λ (t : flag c.args.missing l.u ≡ true). source-missing _ _ _ _ _ _ _ _ l.invariant c.loop-j-test.true c.requires.1 (ap not t) in
+    grind (arith, present, missing)
 
 pub shape_of-out : goal.shape_of-out
 shape_of-out c = c.loop-j.invariant.written.len
