@@ -19,16 +19,16 @@ bounds-plan-at c = omega (arith, c.requires.1, c.loop-j-test.true)
 
 -- or one is too large, or taken
 pub returns-then-m-x : goal.returns-then-m-x
-returns-then-m-x c = sym (source_above _ _ _ _ c.loop-j.j _ c.loop-j-test.true (omega (arith, c.if-m-x.true, c.requires.0)))
+returns-then-m-x c = sym (source_above _ _ _ _ c.loop-j.j _ c.loop-j-test.true (omega arith))
 
 pub bounds-taken-x : goal.bounds-taken-x
-bounds-taken-x c = omega (arith, c.requires.0, c.if-m-x.false)
+bounds-taken-x c = omega arith
 
 pub returns-then-taken-x : goal.returns-then-taken-x
-returns-then-taken-x c = sym (source_taken _ _ _ _ c.loop-j.j _ c.loop-j.invariant.1 (omega (arith, c.requires.0, c.if-m-x.false)) _ c.loop-j-test.true c.if-taken-x.true)
+returns-then-taken-x c = sym (source_taken _ _ _ _ c.loop-j.j _ c.loop-j.invariant.1 (omega arith) _ c.loop-j-test.true c.if-taken-x.true)
 
 pub bounds-taken-x-in-loop-j : goal.bounds-taken-x-in-loop-j
-bounds-taken-x-in-loop-j c = omega (arith, c.requires.0, c.if-m-x.false)
+bounds-taken-x-in-loop-j c = omega arith
 
 pub overflow_add-j : goal.overflow_add-j
 overflow_add-j c = omega (arith, c.loop-j-test.true, c.ranges)
@@ -37,7 +37,7 @@ pub loop-j-smaller : goal.loop-j-smaller
 loop-j-smaller c = omega (arith, c.loop-j-test.true)
 
 pub loop-j-preserved : goal.loop-j-preserved
-loop-j-preserved c = (omega (arith, c.loop-j-test.true), taken_next _ _ _ _ c.loop-j.j _ c.loop-j.invariant.1 (omega (arith, c.requires.0, c.if-m-x.false)) c.if-m-x.false c.if-taken-x.false)
+loop-j-preserved c = (omega (arith, c.loop-j-test.true), taken_next _ _ _ _ c.loop-j.j _ c.loop-j.invariant.1 (omega arith) (omega arith) c.if-taken-x.false)
 
 -- all are good
 pub returns : goal.returns
