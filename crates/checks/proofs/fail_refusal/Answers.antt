@@ -26,10 +26,16 @@ pub is_listed-requires : goal.is_listed-requires
 is_listed-requires c = let s = repair_asked _ _ _ (sym c.pool_refusal-refusal.ensures ∙ c.if-refusal-ne0.false) in omega (arith, s.valid, s.good.few)
 
 pub returns-then-is_listed : goal.returns-then-is_listed
-returns-then-is_listed c = own c.args.y c.args.r c.args.len c.args.target c.pool_refusal-refusal.ensures c.if-refusal-ne0.false (target_again c.args.y c.args.r _ c.if-targets-target.false (sym c.is_listed.ensures ∙ c.if-is_listed.true))
+returns-then-is_listed c =
+    own c.args.y c.args.r c.args.len c.args.target c.pool_refusal-refusal.ensures c.if-refusal-ne0.false
+    (target_again c.args.y c.args.r _ c.if-targets-target.false (sym c.is_listed.ensures ∙ c.if-is_listed.true))
 
 pub returns-then-k-most : goal.returns-then-k-most
-returns-then-k-most c = own c.args.y c.args.r c.args.len c.args.target c.pool_refusal-refusal.ensures c.if-refusal-ne0.false (target_dud c.args.y c.args.r _ c.if-targets-target.false (sym c.is_listed.ensures ∙ c.if-is_listed.false) c.if-k-most.true)
+returns-then-k-most c =
+    own c.args.y c.args.r c.args.len c.args.target c.pool_refusal-refusal.ensures c.if-refusal-ne0.false
+    (target_dud c.args.y c.args.r _ c.if-targets-target.false (sym c.is_listed.ensures ∙ c.if-is_listed.false) c.if-k-most.true)
 
 pub returns : goal.returns
-returns c = own c.args.y c.args.r c.args.len c.args.target c.pool_refusal-refusal.ensures c.if-refusal-ne0.false (target_fails c.args.y c.args.r _ c.if-targets-target.false (sym c.is_listed.ensures ∙ c.if-is_listed.false) c.if-k-most.false)
+returns c =
+    own c.args.y c.args.r c.args.len c.args.target c.pool_refusal-refusal.ensures c.if-refusal-ne0.false
+    (target_fails c.args.y c.args.r _ c.if-targets-target.false (sym c.is_listed.ensures ∙ c.if-is_listed.false) c.if-k-most.false)

@@ -13,7 +13,8 @@ use Rattle.checks.proofs.range_refusal.Goals as goal
 use mathlib.Core.Bool.{Bool}
 
 -- once that has passed, the call's own tests decide
-own : (y : Layout) (r : Record) (len offset size : ℕ) {refusal n : ℕ} → refusal ≡ repair_refusal y r len → refusal ≡ 0 → n ≡ refusal_by (range_tests y offset size) → n ≡ range_refusal y r len offset size
+own : (y : Layout) (r : Record) (len offset size : ℕ) {refusal n : ℕ} → refusal ≡ repair_refusal y r len → refusal ≡ 0
+    → n ≡ refusal_by (range_tests y offset size) → n ≡ range_refusal y r len offset size
 unfolding range_refusal
 own y r len offset size p zero e = e ∙ sym (passed_first _ _ _ _ p zero)
 

@@ -36,7 +36,9 @@ pub returns-then-refusal-ne0 : goal.returns-then-refusal-ne0
 returns-then-refusal-ne0 c = lists_refused _ _ _ c.args.ranges.now c.args.bytes.now _ c.pool_refusal-refusal.ensures c.if-refusal-ne0.true
 
 pub returns-then-ranges-gt64 : goal.returns-then-ranges-gt64
-returns-then-ranges-gt64 c = lists_many _ _ _ c.args.ranges.now c.args.bytes.now (repair_asked _ _ _ (sym c.pool_refusal-refusal.ensures ∙ c.if-refusal-ne0.false)) (omega (arith, c.if-ranges-gt64.true))
+returns-then-ranges-gt64 c =
+    lists_many _ _ _ c.args.ranges.now c.args.bytes.now (repair_asked _ _ _ (sym c.pool_refusal-refusal.ensures ∙ c.if-refusal-ne0.false))
+    (omega (arith, c.if-ranges-gt64.true))
 
 pub numbers_of-numbers-requires : goal.numbers_of-numbers-requires
 numbers_of-numbers-requires c = (repair_asked _ _ _ (sym c.pool_refusal-refusal.ensures ∙ c.if-refusal-ne0.false)).valid
@@ -45,20 +47,34 @@ pub first_outside-range-requires : goal.first_outside-range-requires
 first_outside-range-requires c = omega (arith, c.if-ranges-gt64.false)
 
 pub returns-then-range-ne0 : goal.returns-then-range-ne0
-returns-then-range-ne0 c = lists_outside _ _ _ c.args.ranges.now c.args.bytes.now (repair_asked _ _ _ (sym c.pool_refusal-refusal.ensures ∙ c.if-refusal-ne0.false)) (omega (arith, c.if-ranges-gt64.false)) _ (searched c.args.y c.args.ranges.now _ _ c.numbers_of-numbers.ensures.capacity_is c.first_outside-range.ensures) (λ z. omega (arith, c.if-range-ne0.true, z))
+returns-then-range-ne0 c =
+    lists_outside _ _ _ c.args.ranges.now c.args.bytes.now (repair_asked _ _ _ (sym c.pool_refusal-refusal.ensures ∙ c.if-refusal-ne0.false))
+    (omega (arith, c.if-ranges-gt64.false)) _
+    (searched c.args.y c.args.ranges.now _ _ c.numbers_of-numbers.ensures.capacity_is c.first_outside-range.ensures)
+    (λ z. omega (arith, c.if-range-ne0.true, z))
 
 pub sum_of_lengths-requires : goal.sum_of_lengths-requires
 sum_of_lengths-requires c = let a = c.args in
     let n = c.numbers_of-numbers.ensures in (
       omega (arith, c.if-ranges-gt64.false),
-      λ i h. omega (arith, inside_fits a.y a.ranges.now i (each c.args.y c.args.ranges.now _ _ c.numbers_of-numbers.ensures.capacity_is c.first_outside-range.ensures c.if-range-ne0.false i h), n.capacity-few, n.capacity_is),
+      λ i h. omega (arith,
+          inside_fits a.y a.ranges.now i (each c.args.y c.args.ranges.now _ _ c.numbers_of-numbers.ensures.capacity_is c.first_outside-range.ensures c.if-range-ne0.false i h),
+          n.capacity-few, n.capacity_is),
     )
 
 pub returns-then-sum_of_lengths-bytes : goal.returns-then-sum_of_lengths-bytes
-returns-then-sum_of_lengths-bytes c = lists_wrong-sum _ _ _ c.args.ranges.now c.args.bytes.now (repair_asked _ _ _ (sym c.pool_refusal-refusal.ensures ∙ c.if-refusal-ne0.false)) (omega (arith, c.if-ranges-gt64.false)) (each c.args.y c.args.ranges.now _ _ c.numbers_of-numbers.ensures.capacity_is c.first_outside-range.ensures c.if-range-ne0.false) (λ (e : length c.args.bytes.now ≡ _). let t = c.sum_of_lengths.ensures in omega (arith, c.if-sum_of_lengths-bytes.true, t, e))
+returns-then-sum_of_lengths-bytes c =
+    lists_wrong-sum _ _ _ c.args.ranges.now c.args.bytes.now (repair_asked _ _ _ (sym c.pool_refusal-refusal.ensures ∙ c.if-refusal-ne0.false)) (omega (arith, c.if-ranges-gt64.false))
+    (each c.args.y c.args.ranges.now _ _ c.numbers_of-numbers.ensures.capacity_is c.first_outside-range.ensures c.if-range-ne0.false)
+    (λ (e : length c.args.bytes.now ≡ _). let t = c.sum_of_lengths.ensures in omega (arith, c.if-sum_of_lengths-bytes.true, t, e))
 
 pub write_ranges-requires : goal.write_ranges-requires
-write_ranges-requires c = asked _ _ _ _ _ _ (repair_asked _ _ _ (sym c.pool_refusal-refusal.ensures ∙ c.if-refusal-ne0.false)) c.if-ranges-gt64.false (each c.args.y c.args.ranges.now _ _ c.numbers_of-numbers.ensures.capacity_is c.first_outside-range.ensures c.if-range-ne0.false) c.if-sum_of_lengths-bytes.false c.sum_of_lengths.ensures
+write_ranges-requires c =
+    asked _ _ _ _ _ _ (repair_asked _ _ _ (sym c.pool_refusal-refusal.ensures ∙ c.if-refusal-ne0.false)) c.if-ranges-gt64.false
+    (each c.args.y c.args.ranges.now _ _ c.numbers_of-numbers.ensures.capacity_is c.first_outside-range.ensures c.if-range-ne0.false)
+    c.if-sum_of_lengths-bytes.false c.sum_of_lengths.ensures
 
 pub returns : goal.returns
-returns c = lists_written _ _ _ _ c.args.bytes.now (asked _ _ _ _ _ _ (repair_asked _ _ _ (sym c.pool_refusal-refusal.ensures ∙ c.if-refusal-ne0.false)) c.if-ranges-gt64.false (each c.args.y c.args.ranges.now _ _ c.numbers_of-numbers.ensures.capacity_is c.first_outside-range.ensures c.if-range-ne0.false) c.if-sum_of_lengths-bytes.false c.sum_of_lengths.ensures) _ c.write_ranges.ensures
+returns c = lists_written _ _ _ _ c.args.bytes.now (asked _ _ _ _ _ _ (repair_asked _ _ _ (sym c.pool_refusal-refusal.ensures ∙ c.if-refusal-ne0.false)) c.if-ranges-gt64.false
+        (each c.args.y c.args.ranges.now _ _ c.numbers_of-numbers.ensures.capacity_is c.first_outside-range.ensures c.if-range-ne0.false)
+        c.if-sum_of_lengths-bytes.false c.sum_of_lengths.ensures) _ c.write_ranges.ensures

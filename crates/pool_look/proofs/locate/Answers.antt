@@ -30,7 +30,9 @@ bounds-missing-c c = content-small _ _ _ _ _ _ (asked c.before.before.before)
 
 pub returns-then-missing-c : goal.returns-then-missing-c
 unfolding shown_at
-returns-then-missing-c c = located _ _ _ _ _ _ (asked c.before.before.before.before) _ c.plan_at-plan.ensures _ (sym c.look_refusal-refusal.ensures ∙ c.if-refusal-ne0.false) true 0 c.if-missing-c.true refl
+returns-then-missing-c c =
+    located _ _ _ _ _ _ (asked c.before.before.before.before) _ c.plan_at-plan.ensures _
+    (sym c.look_refusal-refusal.ensures ∙ c.if-refusal-ne0.false) true 0 c.if-missing-c.true refl
 
 pub offset_bounds-at-c : goal.offset_bounds-at-c
 offset_bounds-at-c c = omega (arith, content-small _ _ _ _ _ _ (asked c.before.before.before.before))

@@ -81,4 +81,6 @@ pub shape_of-out : goal.shape_of-out
 shape_of-out c = c.loop-from.invariant.1
 
 pub returns : goal.returns
-returns c = file_done (file_byte c.args.y c.args.r c.args.image.now) c.args.offset c.args.out.now c.loop-from.from c.loop-from.out c.loop-from.invariant.1 c.loop-from-test.false c.loop-from.invariant.3
+returns c =
+    file_done (file_byte c.args.y c.args.r c.args.image.now) c.args.offset c.args.out.now c.loop-from.from c.loop-from.out
+    c.loop-from.invariant.1 c.loop-from-test.false c.loop-from.invariant.3

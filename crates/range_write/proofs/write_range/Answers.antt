@@ -36,7 +36,9 @@ pub next-survey-requires : goal.next-survey-requires
 next-survey-requires c = let w = c.loop-from.invariant in (w.1, w.0.sound.valid, c.shape_of-s.ensures, w.0.sound.good, group_inside _ _ _ _ _ _ _ _ w.0 c.loop-from-test.true)
 
 pub write_group-requires : goal.write_group-requires
-write_group-requires c = let w = c.loop-from.invariant.0 in let more = c.loop-from-test.true in let s = c.next-survey.ensures.1 in (fits_here _ _ _ _ _ _ _ _ w more _ s, apart_here _ _ _ _ _ _ _ _ w more _ s, named_here _ _ _ _ _ _ _ _ w more _ s)
+write_group-requires c =
+    let w = c.loop-from.invariant.0 in let more = c.loop-from-test.true in let s = c.next-survey.ensures.1 in
+    (fits_here _ _ _ _ _ _ _ _ w more _ s, apart_here _ _ _ _ _ _ _ _ w more _ s, named_here _ _ _ _ _ _ _ _ w more _ s)
 
 pub overflow_add-g : goal.overflow_add-g
 overflow_add-g c = let w = c.loop-from.invariant.0 in omega (arith, group_inside _ _ _ _ _ _ _ _ w c.loop-from-test.true, (layout_products _ w.sound.valid).groups)

@@ -15,4 +15,6 @@ home_starts-requires c = let good = c.requires.0 in
     homes_fit _ c.requires.1.valid c.args.r c.args.g _ (omega (arith, good.few, good.mended)) c.sites_of-sites.result c.sites_of-sites.ensures c.homes_of-homes.result c.homes_of-homes.ensures
 
 pub returns : goal.returns
-returns c = starts_of _ c.requires.1.valid c.args.r _ _ c.requires.0.few c.sites_of-sites.result c.sites_of-sites.ensures c.homes_of-homes.result c.homes_of-homes.ensures c.home_starts.result c.home_starts.ensures
+returns c =
+    starts_of _ c.requires.1.valid c.args.r _ _ c.requires.0.few c.sites_of-sites.result c.sites_of-sites.ensures
+    c.homes_of-homes.result c.homes_of-homes.ensures c.home_starts.result c.home_starts.ensures

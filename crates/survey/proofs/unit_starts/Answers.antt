@@ -68,7 +68,8 @@ loop-c-preserved c = let a = c.args in
     let next : a.first + l.c + 1 ≡ a.first + (l.c + 1) = omega arith in (
       omega (arith, c.loop-c-test.true),
       length-set l.at l.c _ ∙ l.invariant.1,
-      fill_step (λ k. spot a.y a.g (a.first + k) 0) l.at l.c _ 0 (omega (arith, c.loop-c-test.true, few)) (c.spot_of-start.ensures.0 ∙ ap (λ (p : Place). spot_of a.y p 0) (placed c.before.before)) l.invariant.2,
+      fill_step (λ k. spot a.y a.g (a.first + k) 0) l.at l.c _ 0 (omega (arith, c.loop-c-test.true, few))
+          (c.spot_of-start.ensures.0 ∙ ap (λ (p : Place). spot_of a.y p 0) (placed c.before.before)) l.invariant.2,
       c.next_cell-cell.ensures a.g (a.first + l.c) l.invariant.3 ∙ ap (cell_of a.y a.g) next,
     )
 
