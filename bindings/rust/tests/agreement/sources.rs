@@ -196,8 +196,8 @@ pub fn functions(source: &str) -> Functions {
 /// The names of the functions that a Rattle source exports.
 pub fn exported(source: &str) -> Vec<String> {
     let tokens = tokens(source);
-    let mark = ["no_mangle", "]", "pub", "extern", "\"", "C", "\"", "fn"];
-    tokens.windows(9).filter(|t| t[..8] == mark).map(|t| t[8].clone()).collect()
+    let mark = ["unsafe", "(", "no_mangle", ")", "]", "pub", "extern", "\"", "C", "\"", "fn"];
+    tokens.windows(12).filter(|t| t[..11] == mark).map(|t| t[11].clone()).collect()
 }
 
 fn function(tokens: &[String], after_name: usize) -> Function {
