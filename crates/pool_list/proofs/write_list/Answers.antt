@@ -57,9 +57,12 @@ pub sum_of_lengths-requires : goal.sum_of_lengths-requires
 sum_of_lengths-requires c = let a = c.args in
     let n = c.numbers_of-numbers.ensures in (
       omega (arith, c.if-ranges-gt64.false),
-      λ i h. omega (arith,
-          inside_fits a.y a.ranges.now i (each c.args.y c.args.ranges.now _ _ c.numbers_of-numbers.ensures.capacity_is c.first_outside-range.ensures c.if-range-ne0.false i h),
-          n.capacity-few, n.capacity_is),
+      λ i h. omega (
+        arith,
+        inside_fits a.y a.ranges.now i (each c.args.y c.args.ranges.now _ _ c.numbers_of-numbers.ensures.capacity_is c.first_outside-range.ensures c.if-range-ne0.false i h),
+        n.capacity-few,
+        n.capacity_is,
+      ),
     )
 
 pub returns-then-sum_of_lengths-bytes : goal.returns-then-sum_of_lengths-bytes
@@ -76,5 +79,5 @@ write_ranges-requires c =
 
 pub returns : goal.returns
 returns c = lists_written _ _ _ _ c.args.bytes.now (asked _ _ _ _ _ _ (repair_asked _ _ _ (sym c.pool_refusal-refusal.ensures ∙ c.if-refusal-ne0.false)) c.if-ranges-gt64.false
-        (each c.args.y c.args.ranges.now _ _ c.numbers_of-numbers.ensures.capacity_is c.first_outside-range.ensures c.if-range-ne0.false)
-        c.if-sum_of_lengths-bytes.false c.sum_of_lengths.ensures) _ c.write_ranges.ensures
+    (each c.args.y c.args.ranges.now _ _ c.numbers_of-numbers.ensures.capacity_is c.first_outside-range.ensures c.if-range-ne0.false)
+    c.if-sum_of_lengths-bytes.false c.sum_of_lengths.ensures) _ c.write_ranges.ensures

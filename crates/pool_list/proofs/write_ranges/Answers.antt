@@ -20,18 +20,21 @@ slice_bounds-write_range-end c = part-ends _ _ c.args.image.now _ c.args.bytes.n
 
 pub write_range-requires : goal.write_range-requires
 write_range-requires c =
-    let w = c.loop-i.invariant in let i = c.loop-i.i in
-    (subst⁻¹ (Sound c.args.y c.args.r) (ap length w.0 ∙ after-length _ _ _ _ _ i) c.requires.sound,
-    range_fits _ _ c.args.image.now _ c.args.bytes.now c.requires i c.loop-i-test.true _ w.1)
+    let w = c.loop-i.invariant in let i = c.loop-i.i in (
+      subst⁻¹ (Sound c.args.y c.args.r) (ap length w.0 ∙ after-length _ _ _ _ _ i) c.requires.sound,
+      range_fits _ _ c.args.image.now _ c.args.bytes.now c.requires i c.loop-i-test.true _ w.1,
+    )
 
 pub overflow_add-i : goal.overflow_add-i
 overflow_add-i c = omega (arith, c.requires.few, c.loop-i-test.true)
 
 pub loop-i-preserved : goal.loop-i-preserved
 loop-i-preserved c =
-    let w = c.loop-i.invariant in let i = c.loop-i.i in let more = c.loop-i-test.true in
-    (range_next _ _ c.args.image.now _ c.args.bytes.now c.requires i more _ w.1 _ _ w.0 c.write_range.ensures,
-    next_from _ _ c.args.image.now _ c.args.bytes.now c.requires i more _ w.1, omega (arith, more))
+    let w = c.loop-i.invariant in let i = c.loop-i.i in let more = c.loop-i-test.true in (
+      range_next _ _ c.args.image.now _ c.args.bytes.now c.requires i more _ w.1 _ _ w.0 c.write_range.ensures,
+      next_from _ _ c.args.image.now _ c.args.bytes.now c.requires i more _ w.1,
+      omega (arith, more),
+    )
 
 pub shape_of-image : goal.shape_of-image
 shape_of-image c = ap length c.loop-i.invariant.0 ∙ after-length _ _ _ _ _ c.loop-i.i

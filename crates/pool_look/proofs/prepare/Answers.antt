@@ -15,9 +15,10 @@ returns-then-refusal-ne0 c = let e = c.look_refusal-refusal.ensures in
     record { answer = e; bytes = c.clear.ensures ∙ sym (grant_no _ _ _ (λ z. c.if-refusal-ne0.true (e ∙ z))) }
 
 pub plan_at-plan-requires : goal.plan_at-plan-requires
-plan_at-plan-requires c =
-    ((look_asked _ _ _ _ _ _ (sym c.look_refusal-refusal.ensures ∙ c.if-refusal-ne0.false)).sound,
-    (look_asked _ _ _ _ _ _ (sym c.look_refusal-refusal.ensures ∙ c.if-refusal-ne0.false)).group_lt)
+plan_at-plan-requires c = (
+  (look_asked _ _ _ _ _ _ (sym c.look_refusal-refusal.ensures ∙ c.if-refusal-ne0.false)).sound,
+  (look_asked _ _ _ _ _ _ (sym c.look_refusal-refusal.ensures ∙ c.if-refusal-ne0.false)).group_lt,
+)
 
 pub bounds-missing-c : goal.bounds-missing-c
 bounds-missing-c c = content-small _ _ _ _ _ _ (look_asked _ _ _ _ _ _ (sym c.look_refusal-refusal.ensures ∙ c.if-refusal-ne0.false))

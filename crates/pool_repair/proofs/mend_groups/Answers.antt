@@ -24,9 +24,13 @@ pub loop-g-init : goal.loop-g-init
 loop-g-init c = (omega arith, c.begin-survey.ensures, mend_begin _ _ _ c.requires)
 
 pub next-survey-requires : goal.next-survey-requires
-next-survey-requires c =
-    (c.loop-g.invariant.1, c.requires.valid, c.shape_of-s.ensures, c.requires.good,
-    (turn c.args.y _ _ c.loop-g-test.true c.numbers_of-numbers.ensures.groups_is c.numbers_of-numbers.ensures.groups-few).0)
+next-survey-requires c = (
+  c.loop-g.invariant.1,
+  c.requires.valid,
+  c.shape_of-s.ensures,
+  c.requires.good,
+  (turn c.args.y _ _ c.loop-g-test.true c.numbers_of-numbers.ensures.groups_is c.numbers_of-numbers.ensures.groups-few).0,
+)
 
 pub mend_group-requires : goal.mend_group-requires
 mend_group-requires c = let sound = c.requires in (
@@ -43,8 +47,12 @@ mend_group-requires c = let sound = c.requires in (
 
 pub overflow_add-count : goal.overflow_add-count
 overflow_add-count c = let sound = c.requires in
-    omega (arith, c.loop-g.invariant.2.few, few-gone _ sound.valid c.args.r sound.good _ _ c.next-survey.ensures.1,
-    turn c.args.y _ _ c.loop-g-test.true c.numbers_of-numbers.ensures.groups_is c.numbers_of-numbers.ensures.groups-few)
+    omega (
+      arith,
+      c.loop-g.invariant.2.few,
+      few-gone _ sound.valid c.args.r sound.good _ _ c.next-survey.ensures.1,
+      turn c.args.y _ _ c.loop-g-test.true c.numbers_of-numbers.ensures.groups_is c.numbers_of-numbers.ensures.groups-few,
+    )
 
 pub overflow_add-g : goal.overflow_add-g
 overflow_add-g c = omega (arith, turn c.args.y _ _ c.loop-g-test.true c.numbers_of-numbers.ensures.groups_is c.numbers_of-numbers.ensures.groups-few)
@@ -57,7 +65,7 @@ loop-g-preserved c = let sound = c.requires in (
   omega (arith, turn c.args.y _ _ c.loop-g-test.true c.numbers_of-numbers.ensures.groups_is c.numbers_of-numbers.ensures.groups-few),
   c.next-survey.ensures.0,
   mend_turn _ _ _ _ _ _ c.loop-g.invariant.2 _ _ (turn c.args.y _ _ c.loop-g-test.true c.numbers_of-numbers.ensures.groups_is c.numbers_of-numbers.ensures.groups-few).0
-          (gone-here _ sound.valid c.args.r sound.good _ _ c.next-survey.ensures.1) c.mend_group.ensures,
+      (gone-here _ sound.valid c.args.r sound.good _ _ c.next-survey.ensures.1) c.mend_group.ensures,
 )
 
 pub shape_of-image : goal.shape_of-image

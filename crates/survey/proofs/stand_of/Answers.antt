@@ -19,9 +19,11 @@ pub homes_of-homes-requires : goal.homes_of-homes-requires
 homes_of-homes-requires c = standing_of _ c.requires.1.valid _ c.sites_of-sites.result.targets c.sites_of-sites.ensures.targets_are _ (few c.args.y c.args.r c.requires.0)
 
 pub missing_of-missing-requires : goal.missing_of-missing-requires
-missing_of-missing-requires c =
-    (units_of _ c.requires.1.valid _ c.sites_of-sites.result.targets c.sites_of-sites.ensures.targets_are c.args.r _
-    (few c.args.y c.args.r c.requires.0) _ c.homes_of-homes.ensures, omega (arith, c.requires.0.few, c.requires.1.valid.few_parity))
+missing_of-missing-requires c = (
+  units_of _ c.requires.1.valid _ c.sites_of-sites.result.targets c.sites_of-sites.ensures.targets_are c.args.r _
+      (few c.args.y c.args.r c.requires.0) _ c.homes_of-homes.ensures,
+  omega (arith, c.requires.0.few, c.requires.1.valid.few_parity),
+)
 
 pub home_starts-at-requires : goal.home_starts-at-requires
 home_starts-at-requires c =
