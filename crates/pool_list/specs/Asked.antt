@@ -45,7 +45,8 @@ module _ (y : Layout) (R : Record) (len : ℕ) (rs : List (List ℕ)) where
     pub each : (i : ℕ) → i < length rs → inside_alone y rs i ≡ true
     pub exact : room ≡ sum (range_size rs) (length rs)
 
-  pub list_asked : (room : ℕ) → list_refusal y R len rs room ≡ 0 → ListAsked room
+module _ (y : Layout) (R : Record) (len : ℕ) (rs : List (List ℕ)) where
+  pub list_asked : (room : ℕ) → list_refusal y R len rs room ≡ 0 → ListAsked y R len rs room
   unfolding list_refusal
   list_asked room e =
       let p = pool-asked y R len (list_tests y rs room) refl e in
