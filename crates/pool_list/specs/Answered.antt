@@ -23,42 +23,9 @@ pub record FirstRefused (y : Layout) (R : Record) (len : ℕ) (rs : List (List �
   pub here : (i : ℕ) → m ≡ suc i → range_refusal y R len (range_offset rs i) (range_size rs i) ≡ number
 
 -- by cases of the list's tests: where 4 is answered and there are few ranges, one of them does not pass
-four_of_range : (d e f : Bool) → refusal_by ((d, 4) ∷ (e, 4) ∷ (f, 5) ∷ []) ≡ 4 → d ≡ true → e ≡ false
+pub four_of_range : (d e f : Bool) → refusal_by ((d, 4) ∷ (e, 4) ∷ (f, 5) ∷ []) ≡ 4 → d ≡ true → e ≡ false
 unfolding refusal_by ◌or_else◌
 four_of_range false e f n t = clash false t refl
 four_of_range true false f n t = refl
 four_of_range true true false n t = absurd (omega arith)
 four_of_range true true true n t = absurd (omega arith)
-
-module _ (y : Layout) (R : Record) (len : ℕ) (rs : List (List ℕ)) (room : ℕ) where
-  earned : Sound y R len → (m : ℕ) → 0 < m → FirstFailing (inside_alone y rs) (length rs) m → FirstRefused y R len rs 4 m
-  earned s m h f =
-      record {
-        some = h;
-        one_of = let q = (f.here (m - 1) (omega (arith, h))).0 in omega (arith, q, h);
-        before = λ i b. alone_by y R len rs s i ∙ ap (λ (t : Bool). pick t 0 4) (f.before i b);
-        here = λ i q. alone_by y R len rs s i ∙ ap (λ (t : Bool). pick t 0 4) (f.here i q).1;
-      }
-
-  -- with 4 and no more than 64 ranges
-  pub range_with_4 : list_refusal y R len rs room ≡ 4 → length rs ≤ 64 → FirstRefused y R len rs 4 (list_range y R len rs room)
-  unfolding list_refusal list_range
-  range_with_4 e few =
-      let t = le-leb (length rs) 64 few in
-      let s = pool_passed y R len (list_tests y rs room) (omega (arith, e)) in
-      let some = four_of_range (leb (length rs) 64) (all (inside_alone y rs) (length rs)) _ (sym (sound-passes y R len s (list_tests y rs room)) ∙ e) t in
-      subst⁻¹ (FirstRefused y R len rs 4)
-      (pick_true (both (leb (length rs) 64) (eqb (list_refusal y R len rs room) 4)) _ 0 (pick_true (leb (length rs) 64) _ false t ∙ eq-eqb (list_refusal y R len rs room) 4 e))
-      (earned s _ (omega arith) (lowest_fails (inside_alone y rs) (length rs) some))
-
-  -- "for numbers 1, 2, 3, 5 and for too many ranges the range given is 0", as where nothing is refused
-  pub range_without_4 : (list_refusal y R len rs room ≡ 4 → 64 < length rs) → list_range y R len rs room ≡ 0
-  unfolding list_range
-  range_without_4 f =
-      pick-false (both (leb (length rs) 64) (eqb (list_refusal y R len rs room) 4)) _ 0
-      (not-both_ways _
-      (λ t.
-      let p = both_true (leb (length rs) 64) (eqb (list_refusal y R len rs room) 4) t in
-      let few = leb-true (length rs) 64 p.0 in
-      let many = f (eqb-true (list_refusal y R len rs room) 4 p.1) in
-      omega (arith, few, many)))

@@ -44,16 +44,3 @@ module _ (y : Layout) (R : Record) (len : ℕ) (rs : List (List ℕ)) where
     pub few : length rs ≤ 64
     pub each : (i : ℕ) → i < length rs → inside_alone y rs i ≡ true
     pub exact : room ≡ sum (range_size rs) (length rs)
-
-module _ (y : Layout) (R : Record) (len : ℕ) (rs : List (List ℕ)) where
-  pub list_asked : (room : ℕ) → list_refusal y R len rs room ≡ 0 → ListAsked y R len rs room
-  unfolding list_refusal
-  list_asked room e =
-      let p = pool-asked y R len (list_tests y rs room) refl e in
-      let q = p.1 in
-      record {
-        sound = p.0;
-        few = leb-true (length rs) 64 q.0;
-        each = all-at (inside_alone y rs) (length rs) q.1.0;
-        exact = eqb-true room (sum (range_size rs) (length rs)) q.1.1.0;
-      }

@@ -27,7 +27,8 @@ use Rattle.proposal.proofs.PlanHolds.{plan_changes}
 use Rattle.swapping.specs.Swapping.{swap_image, NewHome}
 use Rattle.swapping.proofs.SwapLaws.{swap_changes}
 use Rattle.pool_list.specs.Ranges.{list_image}
-use Rattle.pool_list.specs.Kept.{WrittenByOne, list_changes}
+use Rattle.pool_list.specs.Kept.{WrittenByOne}
+use Rattle.pool_list.proofs.KeptLaws.{list_changes}
 use Rattle.promises.specs.Runs.{Event, State, start, run, laid_on}
 use Rattle.promises.specs.RunLaws.{Inside, inside-sound, started, ran, laid}
 

@@ -28,8 +28,8 @@ use Rattle.proposal.proofs.PlanHolds.{plan_right, plan_kept, plan_keeps_true, pl
 use Rattle.swapping.specs.Swapping.{swap_record}
 use Rattle.swapping.proofs.SwapHolds.{swap_right, swap_kept, swap_keeps_true, swap_agree}
 use Rattle.pool_list.specs.Ranges.{list_tests, list_refusal, laid_ranges}
-use Rattle.pool_list.specs.Kept.{list_agree}
-use Rattle.pool_list.specs.Laid.{list_right}
+use Rattle.pool_list.proofs.KeptLaws.{list_agree}
+use Rattle.pool_list.proofs.LaidLaws.{list_right}
 use Rattle.promises.specs.Runs.{Event, write, write_list, fail, repair, repair_by, swap, read, look, scribble, State, start, step, run, laid_on, reinked, reink}
 
 pub record Inside (y : Layout) (s : State) : Type 0 where

@@ -22,13 +22,17 @@ use Rattle.pool.specs.Calls.{Reads, Writes}
 use Rattle.pool.specs.Elsewhere.{unseen, AgreeElsewhere}
 use Rattle.pool.specs.Unread.{Alike}
 use Rattle.pool_list.specs.Ranges.{range_offset, range_size, range_bytes, inside_alone, list_tests, list_refusal, list_range, after_ranges, list_image, laid_ranges, WritesList}
-use Rattle.pool_list.specs.Asked.{alone_by, list_asked}
-use Rattle.pool_list.specs.Steps.{image_refused, image_accepted, each_accepted}
-use Rattle.pool_list.specs.Answers.{lists_accepted}
-use Rattle.pool_list.specs.Answered.{FirstRefused, range_with_4, range_without_4}
-use Rattle.pool_list.specs.One.{no_bytes, one_number, one_range, one_image}
+use Rattle.pool_list.specs.Asked.{alone_by}
+use Rattle.pool_list.proofs.AskedLaws.{list_asked}
+use Rattle.pool_list.proofs.StepsLaws.{image_refused, image_accepted, each_accepted}
+use Rattle.pool_list.proofs.AnswersLaws.{lists_accepted}
+use Rattle.pool_list.specs.Answered.{FirstRefused}
+use Rattle.pool_list.proofs.AnsweredLaws.{range_with_4, range_without_4}
+use Rattle.pool_list.proofs.One.{no_bytes, one_number, one_range, one_image}
 use Rattle.pool_list.specs.Kept as K
+use Rattle.pool_list.proofs.KeptLaws as KProofs
 use Rattle.pool_list.specs.Laid as F
+use Rattle.pool_list.proofs.LaidLaws as FProofs
 use Rattle.promises.specs.Refusals.{pool_table}
 use Rattle.promises.specs.Runs.{Event, write, write_list, State, start, step, run}
 use Rattle.promises.specs.Calls.{Leaves, Reaches, leaves_step, reaches_run, reaches_more, calls_right, file_length}
@@ -137,12 +141,12 @@ pub list_independent : (y : Layout) (R : Record) (img img' : List ℕ) → Agree
 list_independent y R img img' a rs bytes = (
   ap (λ (k : ℕ). list_refusal y R k rs (length bytes)) (sym a.same_length),
   ap (λ (k : ℕ). list_range y R k rs (length bytes)) (sym a.same_length),
-  K.list_elsewhere y R rs bytes img img' a,
+  KProofs.list_elsewhere y R rs bytes img img' a,
 )
 
 pub list_leaves : (y : Layout) (R : Record) (img : List ℕ) (x : ℕ) → x < length img → (rs : List (List ℕ)) (bytes : List ℕ) → unseen y R x ≡ true
     → at (list_image y R img rs bytes) x ≡ at img x
-list_leaves y R img x h rs bytes = K.list_spares_unseen y R rs bytes img x h
+list_leaves y R img x h rs bytes = KProofs.list_spares_unseen y R rs bytes img x h
 
 pub list_unread : (y : Layout) (R R' : Record) → Alike R R' → (img : List ℕ) (rs : List (List ℕ)) (bytes : List ℕ)
     → (list_refusal y R (length img) rs (length bytes) ≡ list_refusal y R' (length img) rs (length bytes))
@@ -174,7 +178,7 @@ run-tabulate y s f (suc n) = run-tabulate y (step y s (f 0)) (λ i. f (suc i)) n
 -- the buffer is one of bytes, as in `Runs`
 module _ (rs : List (List ℕ)) (bytes : List ℕ) (ok : (i : ℕ) → i < length bytes → at bytes i < 256) where
   abbrev write_of : ℕ → Event
-  write_of i = write (range_offset rs i) (range_bytes rs bytes i) (F.bytes_small rs bytes ok i)
+  write_of i = write (range_offset rs i) (range_bytes rs bytes i) (FProofs.bytes_small rs bytes ok i)
 
   -- one write for each range, in order
   abbrev pub writes_of : List Event

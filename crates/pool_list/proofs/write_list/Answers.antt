@@ -14,7 +14,8 @@ use Rattle.pool.specs.Asked.{Sound, repair_asked}
 use Rattle.lists.specs.First.{first_failing, none_fails}
 use Rattle.pool_list.specs.Ranges.{range_offset, range_size, inside_alone}
 use Rattle.pool_list.specs.Asked.{inside_is, inside_fits, ListAsked}
-use Rattle.pool_list.specs.Answers.{lists_refused, lists_many, lists_outside, lists_wrong-sum, lists_written}
+use Rattle.pool_list.proofs.AnswersLaws.{lists_outside, lists_wrong-sum}
+use Rattle.pool_list.proofs.AnswersLaws.{lists_refused, lists_many, lists_written}
 use Rattle.pool_list.proofs.write_list.Goals as goal
 
 -- the range that was searched for is the first that alone would be refused

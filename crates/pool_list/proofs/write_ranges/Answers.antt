@@ -5,7 +5,7 @@ use lib.ListN.{length}
 use Rattle.lists.specs.Count.{sum}
 use Rattle.pool.specs.Asked.{Sound}
 use Rattle.pool_list.specs.Ranges.{after_ranges}
-use Rattle.pool_list.specs.Steps.{after-length, part-ends, next_from, range_fits, range_next}
+use Rattle.pool_list.proofs.StepsLaws.{after-length, next_from, part-ends, range_fits, range_next}
 use Rattle.pool_list.proofs.write_ranges.Goals as goal
 
 pub loop-i-init : goal.loop-i-init

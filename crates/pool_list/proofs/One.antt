@@ -20,9 +20,11 @@ use Rattle.pool.proofs.WriteHoldsLaws.{write_accepted}
 use Rattle.pool.proofs.ChangesLaws.{written_none}
 use Rattle.checks.specs.Tests.{range_by}
 use Rattle.pool_list.specs.Ranges.{range_offset, range_size, range_bytes, inside_alone, list_tests, list_refusal, list_range, after_ranges, list_image}
-use Rattle.pool_list.specs.Asked.{inside_is, ListAsked, list_asked}
-use Rattle.pool_list.specs.Steps.{range_in_buffer, bytes_length, image_refused, image_accepted, each_accepted}
-use Rattle.pool_list.specs.Answered.{range_with_4, range_without_4}
+use Rattle.pool_list.specs.Asked.{inside_is, ListAsked}
+use Rattle.pool_list.proofs.AskedLaws.{list_asked}
+use Rattle.pool_list.specs.Steps.{range_in_buffer, bytes_length}
+use Rattle.pool_list.proofs.StepsLaws.{image_refused, image_accepted, each_accepted}
+use Rattle.pool_list.proofs.AnsweredLaws.{range_with_4, range_without_4}
 
 -- where the lengths' sum is 0 each length is, and a write of no bytes leaves the image
 pub no_bytes : (y : Layout) (R : Record) (img : List ℕ) (rs : List (List ℕ)) → list_image y R img rs [] ≡ img

@@ -16,7 +16,7 @@ use Rattle.pool.specs.Asked.{Sound, sound-passes, repair_number}
 use Rattle.checks.specs.Tests.{refused_first}
 use Rattle.pool_list.specs.Ranges.{range_size, inside_alone, list_tests, list_refusal, list_range, after_ranges, list_image, WritesList}
 use Rattle.pool_list.specs.Asked.{ListAsked}
-use Rattle.pool_list.specs.Steps.{image_refused, image_accepted}
+use Rattle.pool_list.proofs.StepsLaws.{image_refused, image_accepted}
 
 module _ (y : Layout) (R : Record) (img : List ℕ) (rs : List (List ℕ)) (bytes : List ℕ) where
   abbrev number : ℕ
