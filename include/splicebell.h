@@ -10,7 +10,7 @@
  * for their type, also where the length is 0 (not NULL); a buffer that a call may change overlaps no other
  * buffer of that call; no other thread touches them meanwhile. docs/ABI.md has the whole of it.
  *
- * C11, no dependencies. Link libsplicebell, or the archive that `rt staticlib abi` makes for x86-64 Linux.
+ * C11, no dependencies. Link libsplicebell, or the archive that `rt lib` makes in crates/abi, for x86-64-v2 Linux.
  */
 #ifndef SPLICEBELL_H
 #define SPLICEBELL_H

@@ -6,7 +6,7 @@
 # x86-64 code that is shipped, by a cross compiler, a Rust standard library for x86-64 and the emulator qemu-x86_64
 # (docs/ABI.md says how to get them).
 
-# archive_in FOLDER: the archive there, libsplicebell.a, or else libabi.a, which `rt staticlib abi` makes.
+# archive_in FOLDER: the archive there, libsplicebell.a, or else libabi.a, which `rt lib` makes of abi.
 archive_in() {
     for archive in "$1/libsplicebell.a" "$1/libabi.a"; do
         [ ! -f "$archive" ] || { echo "$archive"; return; }

@@ -16,7 +16,7 @@ static const struct {
 };
 enum { PARTS = sizeof parts / sizeof *parts };
 
-/* What `rt staticlib abi` makes has code for one processor, and no call that says which. */
+/* What `rt lib` makes of the crate abi has code for one processor, and no call that says which. */
 static int print_processor(void)
 {
 #ifdef WITH_LEVELS

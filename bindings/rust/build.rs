@@ -105,7 +105,8 @@ fn described_in(file: &Path) -> Option<(String, String)> {
 /// The folder of the archive. To make it takes long also where nothing has changed, so it is not made then.
 fn built_archive(root: &Path) -> PathBuf {
     let code = std::env::var("CARGO_CFG_TARGET_ARCH").expect("cargo names the processor");
-    let sources = ["crates", "crates.txt", "scripts", "include"].map(|source| root.join(source));
+    let others = ["crates.txt", "scripts", "include"].map(|source| root.join(source));
+    let sources: Vec<_> = others.into_iter().chain(sources_of_crates(root)).collect();
     for source in &sources {
         println!("cargo:rerun-if-changed={}", source.display());
     }
@@ -128,6 +129,13 @@ fn built_archive(root: &Path) -> PathBuf {
             folder
         }
     }
+}
+
+/// The folders of the crates' sources. What the kit makes of them lies beside them, and is no source.
+fn sources_of_crates(root: &Path) -> Vec<PathBuf> {
+    let crates = std::fs::read_dir(root.join("crates")).into_iter().flatten().flatten();
+    let folders = crates.flat_map(|each| ["src", "specs", "proofs"].map(|f| each.path().join(f)));
+    folders.filter(|folder| folder.is_dir()).collect()
 }
 
 /// When the newest file of a folder, or a file itself, was changed.
