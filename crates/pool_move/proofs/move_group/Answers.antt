@@ -1,11 +1,6 @@
 -- `pool_move::move_group` meets its contract: contents at their own places, then spares of zeros, are all units of the group (`group_laid`).
-use Rattle.runs.specs.Steps.{fits_at}
 use Rattle.pool_move.specs.Turns.{spares_fit, group_laid}
 use Rattle.pool_move.proofs.move_group.Goals as goal
-
-pub move_contents-requires : goal.move_contents-requires
-move_contents-requires c = let r = c.requires in
-    (r.source, fits_at r.fits r.len_is, r.apart, r.meets)
 
 pub clear_units-requires : goal.clear_units-requires
 clear_units-requires c = spares_fit _ _ _ _ c.args.there c.args.old.now c.args.new.now c.requires c.spare_starts-spares.result _ c.spare_starts-spares.ensures c.move_contents.auto.new

@@ -10,15 +10,6 @@ use Rattle.pool_move.proofs.move_groups.Goals as goal
 turn : (g groups all : ℕ) → g < groups → groups ≡ all → groups ≤ 4194304 → (g < all) × (all ≤ 4194304)
 turn g groups all l e h = (omega arith, omega arith)
 
-pub shape_of-s-requires : goal.shape_of-s-requires
-shape_of-s-requires c = c.requires.0.valid
-
-pub numbers_of-numbers-requires : goal.numbers_of-numbers-requires
-numbers_of-numbers-requires c = c.requires.0.valid
-
-pub begin-here-requires : goal.begin-here-requires
-begin-here-requires c = (c.requires.0.valid, c.shape_of-s.ensures)
-
 pub begin-there-requires : goal.begin-there-requires
 begin-there-requires c = let t = same_shape _ c.args.z c.requires.0.valid c.requires.2 in
     (t.valid, t.shaped _ c.shape_of-s.ensures)
@@ -27,10 +18,6 @@ pub loop-g-init : goal.loop-g-init
 loop-g-init c = let t = same_shape _ c.args.z c.requires.0.valid c.requires.2 in
     (omega arith, c.begin-here.ensures, c.begin-there.ensures, moves_begin _ _ _ t.valid (c.requires.1 ∙ sym t.image_is))
 
-pub next-here-requires : goal.next-here-requires
-next-here-requires c = let p = c.requires.0 in
-    (c.loop-g.invariant.1, p.valid, c.shape_of-s.ensures, p.good, (turn _ _ _ c.loop-g-test.true c.numbers_of-numbers.ensures.groups_is c.numbers_of-numbers.ensures.groups-few).0)
-
 pub next-there-requires : goal.next-there-requires
 next-there-requires c = let t = same_shape _ c.args.z c.requires.0.valid c.requires.2 in
     (c.loop-g.invariant.2, t.valid, t.shaped _ c.shape_of-s.ensures, unfailed-good _ _, omega (arith, turn _ _ _ c.loop-g-test.true c.numbers_of-numbers.ensures.groups_is c.numbers_of-numbers.ensures.groups-few, t.groups_are))
@@ -38,12 +25,6 @@ next-there-requires c = let t = same_shape _ c.args.z c.requires.0.valid c.requi
 pub move_group-requires : goal.move_group-requires
 move_group-requires c = let t = same_shape _ c.args.z c.requires.0.valid c.requires.2 in
     ready _ _ t c.args.r c.args.old.now c.requires.0 _ (turn _ _ _ c.loop-g-test.true c.numbers_of-numbers.ensures.groups_is c.numbers_of-numbers.ensures.groups-few).0 _ c.next-here.ensures.1 _ c.shape_of-s.ensures _ refl (unfailed-good _ _) c.next-there.result c.next-there.ensures.0 c.next-there.ensures.1 _ (c.loop-g.invariant.3.same ∙ c.requires.1)
-
-pub overflow_add-g : goal.overflow_add-g
-overflow_add-g c = omega (arith, turn _ _ _ c.loop-g-test.true c.numbers_of-numbers.ensures.groups_is c.numbers_of-numbers.ensures.groups-few)
-
-pub loop-g-smaller : goal.loop-g-smaller
-loop-g-smaller c = omega (arith, c.loop-g-test.true)
 
 pub loop-g-preserved : goal.loop-g-preserved
 loop-g-preserved c = let t = same_shape _ c.args.z c.requires.0.valid c.requires.2 in
@@ -54,9 +35,6 @@ loop-g-preserved c = let t = same_shape _ c.args.z c.requires.0.valid c.requires
       moves_turn _ _ _ l.g l.new l.invariant.3 _ (omega (arith, turn _ _ _ c.loop-g-test.true c.numbers_of-numbers.ensures.groups_is c.numbers_of-numbers.ensures.groups-few, t.groups_are))
           (fresh_group _ _ t c.args.r c.args.old.now c.requires.0 _ (turn _ _ _ c.loop-g-test.true c.numbers_of-numbers.ensures.groups_is c.numbers_of-numbers.ensures.groups-few).0 _ c.next-here.ensures.1 _ _ c.move_group.ensures),
     )
-
-pub shape_of-new : goal.shape_of-new
-shape_of-new c = c.loop-g.invariant.3.same
 
 pub returns : goal.returns
 returns c = let n = c.numbers_of-numbers.ensures in

@@ -18,26 +18,8 @@ without-less-requires c = let a = c.requires in
     let some = some_entry _ _ _ a in
     (some, few-entries _ _ _ a, omega (arith, some, a.repaired))
 
-pub shape_of-s-requires : goal.shape_of-s-requires
-shape_of-s-requires c = c.requires.sound.valid
-
-pub numbers_of-numbers-requires : goal.numbers_of-numbers-requires
-numbers_of-numbers-requires c = c.requires.sound.valid
-
-pub overflow_add-m : goal.overflow_add-m
-overflow_add-m c = let v = c.requires.sound.valid in omega (arith, v.few_data, v.few_parity)
-
-pub permutation-to-requires : goal.permutation-to-requires
-permutation-to-requires c = c.requires.sound.valid
-
 pub loop-g-init : goal.loop-g-init
 loop-g-init c = (omega arith, refl, refl, c.permutation-to.ensures, swapped_begin _ _ _ _ c.requires)
-
-pub nonzero_div-here : goal.nonzero_div-here
-nonzero_div-here c = omega (arith, c.shape_of-s.ensures.c_some)
-
-pub tile_to-to-requires : goal.tile_to-to-requires
-tile_to-to-requires c = (c.requires.sound.valid, c.loop-g.invariant.3)
 
 pub shift_of-shift-requires : goal.shift_of-shift-requires
 shift_of-shift-requires c = let a = c.requires in (
@@ -50,20 +32,11 @@ pub move_units-requires : goal.move_units-requires
 move_units-requires c = let l = c.loop-g in
     (group_movable _ _ _ c.args.image.now c.requires _ (turn _ _ _ c.loop-g-test.true c.numbers_of-numbers.ensures.groups_is c.numbers_of-numbers.ensures.groups-few).0 c.shift_of-shift.result _ c.without-less.ensures c.shift_of-shift.ensures (length l.image) l.invariant.1, l.invariant.2)
 
-pub overflow_add-g : goal.overflow_add-g
-overflow_add-g c = omega (arith, turn _ _ _ c.loop-g-test.true c.numbers_of-numbers.ensures.groups_is c.numbers_of-numbers.ensures.groups-few)
-
-pub loop-g-smaller : goal.loop-g-smaller
-loop-g-smaller c = omega (arith, turn _ _ _ c.loop-g-test.true c.numbers_of-numbers.ensures.groups_is c.numbers_of-numbers.ensures.groups-few)
-
 pub loop-g-preserved : goal.loop-g-preserved
 loop-g-preserved c = let a = c.requires in
     let l = c.loop-g in
     let e = swapped_turn _ _ _ _ a _ (turn _ _ _ c.loop-g-test.true c.numbers_of-numbers.ensures.groups_is c.numbers_of-numbers.ensures.groups-few).0 c.shift_of-shift.result _ c.without-less.ensures c.shift_of-shift.ensures l.image _ l.invariant.4 c.move_units.ensures in
     (omega (arith, turn _ _ _ c.loop-g-test.true c.numbers_of-numbers.ensures.groups_is c.numbers_of-numbers.ensures.groups-few), ap length e ∙ swapped_length _ _ _ _ a _, search rules, c.tile_to-to.ensures, e)
-
-pub shape_of-image : goal.shape_of-image
-shape_of-image c = c.loop-g.invariant.1
 
 pub returns : goal.returns
 returns c = (c.without-less.ensures, swapped_end _ _ _ _ c.requires _ _ c.loop-g.invariant.4 (omega (arith, c.loop-g.invariant.0, c.loop-g-test.false, c.numbers_of-numbers.ensures.groups_is)))

@@ -4,38 +4,11 @@ use native.Mathlib.Omega.{arith}
 use Rattle.proposal_check.specs.Steps.{pass_begin, pass_end, entry_room, pass_outside, pass_by, pass_bad, weight_fits, pass_twice, pass_in}
 use Rattle.proposal_check.proofs.window_good.Goals as goal
 
-pub overflow_add-size : goal.overflow_add-size
-overflow_add-size c = omega (arith, c.requires.valid.few_data)
-
-pub overflow_mul-tile : goal.overflow_mul-tile
-overflow_mul-tile c = omega (arith, c.requires.begins, c.requires.few)
-
-pub nonzero_div-tile : goal.nonzero_div-tile
-nonzero_div-tile c = omega (arith, c.requires.shape.c_some)
-
-pub permutation-to-requires : goal.permutation-to-requires
-permutation-to-requires c = c.requires.valid
-
 pub loop-at-init : goal.loop-at-init
 loop-at-init c = (c.permutation-to.ensures, pass_begin _ _ _ _ _ _ c.requires)
 
-pub overflow_add-next : goal.overflow_add-next
-overflow_add-next c = omega (arith, entry_room _ _ _ _ _ _ c.requires _ _ c.loop-at.invariant.1 c.loop-at-test.true)
-
-pub offset_bounds-plan-at : goal.offset_bounds-plan-at
-offset_bounds-plan-at c = omega (arith, c.loop-at-test.true)
-
-pub bounds-plan-at : goal.bounds-plan-at
-bounds-plan-at c = c.loop-at-test.true
-
 pub returns-then-groups-g : goal.returns-then-groups-g
 returns-then-groups-g c = sym (pass_outside _ _ _ _ _ _ c.requires _ _ c.loop-at.invariant.1 c.loop-at-test.true c.if-groups-g.true)
-
-pub nonzero_div-here : goal.nonzero_div-here
-nonzero_div-here c = omega (arith, c.requires.shape.c_some)
-
-pub tile_to-to-requires : goal.tile_to-to-requires
-tile_to-to-requires c = (c.requires.valid, c.loop-at.invariant.0)
 
 pub entry_rank-rank-requires : goal.entry_rank-rank-requires
 entry_rank-rank-requires c = let p = c.requires in
@@ -44,35 +17,20 @@ entry_rank-rank-requires c = let p = c.requires in
 pub returns-then-rank-eq3 : goal.returns-then-rank-eq3
 returns-then-rank-eq3 c = sym (pass_bad _ _ _ _ _ _ c.requires _ _ c.loop-at.invariant.1 c.loop-at-test.true c.if-g-w.true _ c.entry_rank-rank.ensures c.if-rank-eq3.true)
 
-pub bounds-marks-h : goal.bounds-marks-h
-bounds-marks-h c = omega arith
-
 pub nonzero_div-marks : goal.nonzero_div-marks
 nonzero_div-marks c = omega (arith, (weight_fits _ _ _ _ _ _ c.requires _ _ c.loop-at.invariant.1 c.loop-at-test.true c.if-g-w.true _ c.entry_rank-rank.ensures c.if-rank-eq3.false _ c.weight-bit.ensures).0)
 
 pub returns-then-marks-h-eq1 : goal.returns-then-marks-h-eq1
 returns-then-marks-h-eq1 c = sym (pass_twice _ _ _ _ _ _ c.requires _ _ c.loop-at.invariant.1 c.loop-at-test.true c.if-g-w.true _ c.entry_rank-rank.ensures c.if-rank-eq3.false _ c.weight-bit.ensures c.if-marks-h-eq1.true)
 
-pub bounds-marks-h-then-g-w : goal.bounds-marks-h-then-g-w
-bounds-marks-h-then-g-w c = omega arith
-
 pub overflow_add-marks : goal.overflow_add-marks
 overflow_add-marks c = omega (arith, (weight_fits _ _ _ _ _ _ c.requires _ _ c.loop-at.invariant.1 c.loop-at-test.true c.if-g-w.true _ c.entry_rank-rank.ensures c.if-rank-eq3.false _ c.weight-bit.ensures).1)
-
-pub bounds-marks-h-then-g-w-2 : goal.bounds-marks-h-then-g-w-2
-bounds-marks-h-then-g-w-2 c = omega arith
-
-pub loop-at-smaller-else-marks-h-eq1 : goal.loop-at-smaller-else-marks-h-eq1
-loop-at-smaller-else-marks-h-eq1 c = omega (arith, c.loop-at-test.true)
 
 pub loop-at-preserved-else-marks-h-eq1 : goal.loop-at-preserved-else-marks-h-eq1
 loop-at-preserved-else-marks-h-eq1 c = (
   c.tile_to-to.ensures,
   pass_in _ _ _ _ _ _ c.requires _ _ c.loop-at.invariant.1 c.loop-at-test.true c.if-g-w.true _ c.entry_rank-rank.ensures c.if-rank-eq3.false _ c.weight-bit.ensures c.if-marks-h-eq1.false,
 )
-
-pub loop-at-smaller : goal.loop-at-smaller
-loop-at-smaller c = omega (arith, c.loop-at-test.true)
 
 pub loop-at-preserved : goal.loop-at-preserved
 loop-at-preserved c = (c.loop-at.invariant.0, pass_by _ _ _ _ _ _ c.requires _ _ c.loop-at.invariant.1 c.loop-at-test.true c.if-groups-g.false c.if-g-w.false)

@@ -1,21 +1,11 @@
 -- `proposal_draw::draw` meets its contract. The loop keeps: the permutation in hand is its tile's, and the entries of the groups passed are written
 -- (`PlanTo`); while numbers are wanted a group is left.
 use native.Mathlib.Omega.{arith}
-use Rattle.numbers.specs.Shapes.{layout_products}
 use Rattle.proposal_draw.specs.Drawn.{plan_begin, group_left, plan_turn, plan_end}
 use Rattle.proposal_draw.proofs.draw.Goals as goal
 
-pub shape_of-s-requires : goal.shape_of-s-requires
-shape_of-s-requires c = c.requires.0
-
 pub loop-at-init : goal.loop-at-init
 loop-at-init c = (c.permutation-to.ensures, plan_begin _ _ _)
-
-pub nonzero_div-here : goal.nonzero_div-here
-nonzero_div-here c = omega (arith, c.shape_of-s.ensures.c_some)
-
-pub tile_to-to-requires : goal.tile_to-to-requires
-tile_to-to-requires c = (c.requires.0, c.loop-at.invariant.0)
 
 pub draw_group-at-requires : goal.draw_group-at-requires
 draw_group-at-requires c = let p = c.requires in
@@ -26,18 +16,12 @@ draw_group-at-requires c = let p = c.requires in
       i.next_is,
     )
 
-pub overflow_add-g : goal.overflow_add-g
-overflow_add-g c = omega (arith, group_left _ _ _ _ _ _ c.loop-at.invariant.1 _ c.requires.2 c.loop-at-test.true, (layout_products _ c.requires.0).groups)
-
 pub loop-at-smaller : goal.loop-at-smaller
 loop-at-smaller c = omega (arith, group_left _ _ _ _ _ _ c.loop-at.invariant.1 _ c.requires.2 c.loop-at-test.true)
 
 pub loop-at-preserved : goal.loop-at-preserved
 loop-at-preserved c = let e = c.draw_group-at.ensures in
     (c.tile_to-to.ensures, plan_turn _ _ _ _ _ _ c.loop-at.invariant.1 (group_left _ _ _ _ _ _ c.loop-at.invariant.1 _ c.requires.2 c.loop-at-test.true) _ _ e.0 e.1)
-
-pub shape_of-out : goal.shape_of-out
-shape_of-out c = c.loop-at.invariant.1.written.len
 
 pub returns : goal.returns
 returns c = plan_end _ _ _ _ _ _ c.loop-at.invariant.1 _ c.requires.2 c.requires.3 c.loop-at-test.false

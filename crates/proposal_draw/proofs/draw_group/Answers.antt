@@ -6,7 +6,7 @@ use native.Mathlib.Omega.{arith}
 use lib.ListN.{length}
 use Rattle.homes.specs.declared.Record.{Record}
 use Rattle.proposal.specs.Plans.{entry_size}
-use Rattle.proposal_draw.specs.Drawn.{GroupAt, GroupTo, enough_there, group_begin, content-present, content_room, content-missing, group_end}
+use Rattle.proposal_draw.specs.Drawn.{GroupAt, GroupTo, enough_there, content-present, content_room, content-missing}
 use Rattle.proposal_draw.proofs.draw_group.Goals as goal
 use Rattle.std.proofs.Common.{List, ℕ, Bool, ◌*◌, ◌<◌}
 use Rattle.numbers.specs.declared.Layout.{Layout}
@@ -32,32 +32,11 @@ room : (y : Layout) (r : Record) (g : ℕ) (flags : List Bool) (at : ℕ) (old :
     → GroupTo y r g at old c next out → c < contents y → flag flags c ≡ true → next + entry_size y ≤ length out
 room y r g flags at old k c next out s h t = content_room y r g flags at old k c next out s h (sym (k.flags_are c h) ∙ t)
 
-pub stand_of-stand-requires : goal.stand_of-stand-requires
-stand_of-stand-requires c = (c.requires.0, c.requires.1)
-
-pub overflow_add-m : goal.overflow_add-m
-overflow_add-m c = let v = c.requires.1.valid in omega (arith, v.few_data, v.few_parity)
-
-pub overflow_add-size : goal.overflow_add-size
-overflow_add-size c = omega (arith, c.requires.1.valid.few_data)
-
-pub loop-c-init : goal.loop-c-init
-loop-c-init c = λ R k. group_begin _ _ _ _ _ _ k
-
-pub bounds-missing-c : goal.bounds-missing-c
-bounds-missing-c c = let v = c.requires.1.valid in omega (arith, c.loop-c-test.true, v.few_data, v.few_parity)
-
 pub draw_entry-requires : goal.draw_entry-requires
 draw_entry-requires c = let k = here _ _ _ _ _ _ _ _ c.requires c.stand_of-stand.ensures in (k.valid, enough_there _ _ _ _ _ _ k, room _ _ _ _ _ _ k _ _ _ (c.loop-c.invariant _ k) c.loop-c-test.true (cc))
 
 pub overflow_add-next : goal.overflow_add-next
 overflow_add-next c = let k = here _ _ _ _ _ _ _ _ c.requires c.stand_of-stand.ensures in omega (arith, room _ _ _ _ _ _ k _ _ _ (c.loop-c.invariant _ k) c.loop-c-test.true (cc), (c.loop-c.invariant _ k).written.len)
-
-pub overflow_add-c : goal.overflow_add-c
-overflow_add-c c = let v = c.requires.1.valid in omega (arith, c.loop-c-test.true, v.few_data, v.few_parity)
-
-pub loop-c-smaller : goal.loop-c-smaller
-loop-c-smaller c = omega (arith, c.loop-c-test.true)
 
 pub loop-c-preserved : goal.loop-c-preserved
 loop-c-preserved c = λ R k.
@@ -65,9 +44,3 @@ loop-c-preserved c = λ R k.
     let missing = content-missing _ _ _ _ _ _ k _ _ _ i c.loop-c-test.true in
     let present = content-present _ _ _ _ _ _ k _ _ _ i c.loop-c-test.true in
     grind (arith, missing, present)
-
-pub shape_of-out : goal.shape_of-out
-shape_of-out c = (c.loop-c.invariant _ (here _ _ _ _ _ _ _ _ c.requires c.stand_of-stand.ensures)).written.len
-
-pub returns : goal.returns
-returns c = group_end _ _ _ _ _ _ (here _ _ _ _ _ _ _ _ c.requires c.stand_of-stand.ensures) _ _ _ (c.loop-c.invariant _ (here _ _ _ _ _ _ _ _ c.requires c.stand_of-stand.ensures)) c.loop-c-test.false

@@ -11,9 +11,6 @@ offset_bounds-proposal-at c = omega (arith, entry_room _ _ _ _ _ c.requires.0)
 pub bounds-proposal-at : goal.bounds-proposal-at
 bounds-proposal-at c = omega (arith, entry_room _ _ _ _ _ c.requires.0)
 
-pub overflow_add-c : goal.overflow_add-c
-overflow_add-c c = omega (arith, entry_room _ _ _ _ _ c.requires.0)
-
 pub offset_bounds-proposal-at-2 : goal.offset_bounds-proposal-at-2
 offset_bounds-proposal-at-2 c = omega (arith, entry_room _ _ _ _ _ c.requires.0)
 
@@ -23,9 +20,6 @@ bounds-proposal-at-2 c = omega (arith, entry_room _ _ _ _ _ c.requires.0)
 pub new_starts-homes-requires : goal.new_starts-homes-requires
 new_starts-homes-requires c = entry_tile _ _ _ _ _ c.requires.0 _ c.tile_to-to.ensures
 
-pub overflow_add-at : goal.overflow_add-at
-overflow_add-at c = omega (arith, entry_room _ _ _ _ _ c.requires.0)
-
 pub left_out-flags-requires : goal.left_out-flags-requires
 left_out-flags-requires c = entry_sources _ _ _ _ _ c.requires.0
 
@@ -33,12 +27,10 @@ pub plan_next-plan-requires : goal.plan_next-plan-requires
 plan_next-plan-requires c = entry_next _ _ _ _ _ c.requires.0 _ c.requires.1 _ c.left_out-flags.ensures
 
 pub mend_unit-requires : goal.mend_unit-requires
-mend_unit-requires c = let begun = c.before.before.before.before.before.before.before.before.before.before.before.before.before in
-    let new = c.new_starts-homes in
-    entry_ready _ _ _ _ _ begun.requires.0 _ begun.requires.1 _ c.left_out-flags.ensures new.result new.ensures _ c.plan_next-plan.ensures _ begun.requires.2
+mend_unit-requires c = let new = c.new_starts-homes in
+    entry_ready _ _ _ _ _ c.requires.0 _ c.requires.1 _ c.left_out-flags.ensures new.result new.ensures _ c.plan_next-plan.ensures _ c.requires.2
 
 pub returns : goal.returns
-returns c = let begun = c.before.before.before.before.before.before.before.before.before.before.before.before.before.before.before.before in
-    let new = c.new_starts-homes in
-    entry_done _ _ _ _ _ begun.requires.0 _ begun.requires.1 _ c.left_out-flags.ensures new.result new.ensures _ c.plan_next-plan.ensures
-    _ _ c.tile_to-to.ensures _ _ begun.requires.2 _ refl c.mend_unit.ensures
+returns c = let new = c.new_starts-homes in
+    entry_done _ _ _ _ _ c.requires.0 _ c.requires.1 _ c.left_out-flags.ensures new.result new.ensures _ c.plan_next-plan.ensures
+    _ _ c.tile_to-to.ensures _ _ c.requires.2 _ refl c.mend_unit.ensures
