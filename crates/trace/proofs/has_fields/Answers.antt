@@ -1,14 +1,23 @@
 -- `trace::has_fields` meets its contract: before field i at place `at`, the line has the fields where it has those from the i-th on.
 use Prim.Native.Nat.{ℕ, ◌+◌}
-use mathlib.Core.Path.{◌≡◌, sym, ◌∙◌, ap}
+use mathlib.Core.Path.{◌≡◌, refl, sym, ◌∙◌, ap}
 use native.Mathlib.Omega.{arith}
 use Rattle.trace.specs.FieldLaws.{fields_from, field_cut, field_wrong, after-wrong, field_right, fields_done}
 use Rattle.trace.proofs.has_fields.Goals as goal
+
+pub loop-i-init : goal.loop-i-init
+loop-i-init c = (omega arith, c.requires.0, refl)
+
+pub overflow_sub-line : goal.overflow_sub-line
+overflow_sub-line c = c.loop-i.invariant.1
 
 pub returns-then-line-at : goal.returns-then-line-at
 returns-then-line-at c = let i = c.loop-i in
     let a = c.args in
     field_cut a.line.now a.widths a.n (omega arith) i.i i.at c.loop-i-test.true i.invariant.1 (omega arith) ∙ sym i.invariant.2
+
+pub is_digits-requires : goal.is_digits-requires
+is_digits-requires c = omega arith
 
 pub returns-then-not-is_digits : goal.returns-then-not-is_digits
 returns-then-not-is_digits c = let i = c.loop-i in
