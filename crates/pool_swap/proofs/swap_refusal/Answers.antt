@@ -22,24 +22,16 @@ unfolding swap_refusal
 returns-then-refusal-ne0 c = refused_first _ _ _ _ c.pool_refusal-refusal.ensures c.if-refusal-ne0.true
 
 pub returns-then-targets-target : goal.returns-then-targets-target
-returns-then-targets-target c =
-    own c.args.y c.args.r _ _ c.pool_refusal-refusal.ensures c.if-refusal-ne0.false _
-    (swap_outside c.args.y c.args.r _ c.if-targets-target.true)
+returns-then-targets-target c = own c.args.y c.args.r _ _ c.pool_refusal-refusal.ensures c.if-refusal-ne0.false _ (swap_outside c.args.y c.args.r _ c.if-targets-target.true)
 
 pub is_listed-listed-requires : goal.is_listed-listed-requires
 is_listed-listed-requires c = let s = repair_asked _ _ _ (sym c.pool_refusal-refusal.ensures ∙ c.if-refusal-ne0.false) in omega (arith, s.valid, s.good.few)
 
 pub returns-then-not-listed : goal.returns-then-not-listed
-returns-then-not-listed c =
-    own c.args.y c.args.r _ _ c.pool_refusal-refusal.ensures c.if-refusal-ne0.false _
-    (swap_alive c.args.y c.args.r _ c.if-targets-target.false (sym c.is_listed-listed.ensures ∙ c.if-not-listed.true))
+returns-then-not-listed c = own c.args.y c.args.r _ _ c.pool_refusal-refusal.ensures c.if-refusal-ne0.false _ (swap_alive c.args.y c.args.r _ c.if-targets-target.false (sym c.is_listed-listed.ensures ∙ c.if-not-listed.true))
 
 pub returns-then-q-k : goal.returns-then-q-k
-returns-then-q-k c =
-    own c.args.y c.args.r _ _ c.pool_refusal-refusal.ensures c.if-refusal-ne0.false _
-    (swap_early c.args.y c.args.r _ c.if-targets-target.false (sym c.is_listed-listed.ensures ∙ c.if-not-listed.false) c.if-q-k.true)
+returns-then-q-k c = own c.args.y c.args.r _ _ c.pool_refusal-refusal.ensures c.if-refusal-ne0.false _ (swap_early c.args.y c.args.r _ c.if-targets-target.false (sym c.is_listed-listed.ensures ∙ c.if-not-listed.false) c.if-q-k.true)
 
 pub returns : goal.returns
-returns c =
-    own c.args.y c.args.r _ _ c.pool_refusal-refusal.ensures c.if-refusal-ne0.false _
-    (swap_allowed c.args.y c.args.r _ c.if-targets-target.false (sym c.is_listed-listed.ensures ∙ c.if-not-listed.false) c.if-q-k.false)
+returns c = own c.args.y c.args.r _ _ c.pool_refusal-refusal.ensures c.if-refusal-ne0.false _ (swap_allowed c.args.y c.args.r _ c.if-targets-target.false (sym c.is_listed-listed.ensures ∙ c.if-not-listed.false) c.if-q-k.false)
