@@ -5,7 +5,7 @@
 
 /^target datalayout/ { next }
 /^target triple/ { print "target triple = \"aarch64-unknown-linux-gnu\""; next }
-/^attributes/ { gsub(/"(target-cpu|probe-stack)"="[^"]*"/, "") }
+/^attributes/ { gsub(/"(target-cpu|probe-stack|stack-probe-size)"="[^"]*"/, "") }
 
 /^define / && !/^define internal/ {
     gsub(/byval\(\[[0-9]+ x i8\]\) align 8 /, "")
