@@ -12,14 +12,12 @@ ghost use Rattle.answers.specs.Spread.{Block};
 fn places(n: u64) -> usize
     ensures { result ≡ places_of n }
 {
-    let mut i = 0;
     let mut rest = n;
-    while i < 19 {
+    for i in 0..19 {
         if rest < 10 {
             return i + 1;
         }
         rest /= 10;
-        i += 1;
     }
     20
 }
@@ -65,10 +63,8 @@ fn block_at(text: &[u8], from: usize) -> [u8; 64]
     ensures { Block text.now from result }
 {
     let mut block = [0u8; 64];
-    let mut j = 0;
-    while j < 64 {
+    for j in 0..64 {
         block[j] = text[from + j];
-        j += 1;
     }
     block
 }

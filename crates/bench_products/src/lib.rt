@@ -11,10 +11,8 @@ fn fill(powers: &[u8; 256], logs: &[u8; 256], a: &[u8], b: &[u8], out: &mut [u8]
     requires { Tables powers.now logs.now × (length out.old ≤ length a.now) × (length out.old ≤ length b.now) }
     ensures { out.new ≡ tabulate (length out.old) (λ i. product (get_or a.now i 0) (get_or b.now i 0)) }
 {
-    let mut i = 0;
-    while i < out.len() {
+    for i in 0..out.len() {
         out[i] = field::mul_by(powers, logs, a[i], b[i]);
-        i += 1;
     }
 }
 

@@ -27,10 +27,8 @@ fn is_legal(s: &[Entry], n: usize) -> bool
         return false;
     }
     let mut x = fresh();
-    let mut i = 0;
-    while i < n {
+    for i in 0..n {
         x = passed(x, s[i]);
-        i += 1;
     }
     x.rising
 }
@@ -90,11 +88,9 @@ fn list(s: &[Entry], from: usize, out: &mut [Wide], count: usize)
     requires { (from + count ≤ length s.now) × (count ≤ length out.old) }
     ensures { out.new ≡ listed count from s.now out.old }
 {
-    let mut i = 0;
-    while i < count {
+    for i in 0..count {
         let at = from + i;
         out[i] = s[at].cob;
-        i += 1;
     }
 }
 
@@ -107,10 +103,8 @@ fn wipe(out: &mut [Wide], m: usize)
         first: 0,
         second: 0,
     };
-    let mut i = 0;
-    while i < m {
+    for i in 0..m {
         out[i] = nought;
-        i += 1;
     }
 }
 

@@ -249,10 +249,8 @@ fn one_call(rt: &impl Print, seed: &mut u64, before: [Entry; 8], count: usize) -
 fn print_slots(rt: &impl Print, slots: [Entry; 8], count: usize) {
     text(rt, b"slots");
     number(rt, count as u64);
-    let mut i = 0;
-    while i < 8 {
+    for i in 0..8 {
         print_record(rt, slots[i]);
-        i += 1;
     }
     newline(rt);
 }
@@ -261,8 +259,7 @@ fn main(rt: HostRuntime) {
     let mut seed: u64 = 50260505;
     let mut slots = no_entries();
     let mut count: usize = 0;
-    let mut c: u64 = 0;
-    while c < 2400 {
+    for c in 0..2400 {
         if c % 60 == 0 {
             slots = no_entries();
             count = 0;
@@ -271,6 +268,5 @@ fn main(rt: HostRuntime) {
         slots = after.slots;
         count = after.count;
         print_slots(&rt, slots, count);
-        c += 1;
     }
 }

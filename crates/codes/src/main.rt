@@ -14,10 +14,8 @@ fn print_units(rt: &impl Print, l: Units) {
     let at = l.at;
     let count = l.count;
     number(rt, count as u64);
-    let mut i: usize = 0;
-    while i < count % 5 {
+    for i in 0..count % 5 {
         number(rt, at[i]);
-        i += 1;
     }
 }
 
@@ -75,10 +73,8 @@ fn scribble(seed: &mut u64, l: Units, unit: u64, buffer: &mut [u8])
 {
     let at = l.at;
     let count = l.count;
-    let mut i: usize = 0;
-    while i < count % 5 {
+    for i in 0..count % 5 {
         scribble_unit(seed, at[i], unit, buffer);
-        i += 1;
     }
 }
 
@@ -144,10 +140,8 @@ fn group_number(rt: &impl Print, i: u64, seed: &mut u64, buffer: &mut [u8]) {
 }
 
 fn groups(rt: &impl Print, seed: &mut u64, buffer: &mut [u8]) {
-    let mut i: u64 = 0;
-    while i < 320 {
+    for i in 0..320 {
         group_number(rt, i, seed, buffer);
-        i += 1;
     }
 }
 

@@ -16,10 +16,8 @@ fn starts_of(units: [usize; 16], n: usize, unit: usize, size: usize) -> [usize; 
     ensures { (j : ℕ) → j < n → get_or result j 0 ≡ get_or units j 0 * unit }
 {
     let mut starts = [0usize; 16];
-    let mut j = 0;
-    while j < n {
+    for j in 0..n {
         starts[j] = units[j] * unit;
-        j += 1;
     }
     starts
 }
@@ -30,13 +28,11 @@ pub fn encode(buf: &mut [u8], n: usize, k: usize, unit: usize)
     ensures { buf.new ≡ encoded_of n unit buf.old }
 {
     let starts = starts_of(DATA_UNITS, n, unit, buf.len());
-    let mut i = 0;
     let mut at = n * unit;
-    while i < k {
+    for i in 0..k {
         let coefs = systems::row(i);
         kernel::combine_in(buf, at, &starts, &coefs, n, unit);
         at += unit;
-        i += 1;
     }
 }
 
@@ -81,8 +77,7 @@ fn fill_all(
 {
     let rows = parity::rows(miss, n, k);
     let starts = starts_of(parity::slots(miss, n, k), n, unit, buf.len());
-    let mut q = 0;
-    while q < total {
+    for q in 0..total {
         let u = units[q];
         if q + 1 == last {
             fill_last(buf, n, unit, u);
@@ -90,7 +85,6 @@ fn fill_all(
             let coefs = rows[q];
             kernel::combine_in(buf, u * unit, &starts, &coefs, n, unit);
         }
-        q += 1;
     }
 }
 

@@ -39,12 +39,10 @@ pub fn encode(y: Layout, buf: &mut [u8]) -> u64
 fn outside(missing: &[u64], m: u64) -> u64
     ensures { result ≡ unless (each_below m missing.now) 4 }
 {
-    let mut i = 0;
-    while i < missing.len() {
+    for i in 0..missing.len() {
         if m <= missing[i] {
             return 4;
         }
-        i += 1;
     }
     0
 }
@@ -55,11 +53,9 @@ fn flags(missing: &[u64]) -> [bool; 19]
     ensures { flag result ≡ named missing.now }
 {
     let mut f = [false; 19];
-    let mut i = 0;
-    while i < missing.len() {
+    for i in 0..missing.len() {
         let x = missing[i] as usize;
         f[x] = true;
-        i += 1;
     }
     f
 }
@@ -70,12 +66,10 @@ fn flagged(f: [bool; 19], m: u64) -> u64
     ensures { result ≡ count (flag f) m }
 {
     let mut c: u64 = 0;
-    let mut u: u64 = 0;
-    while u < m {
+    for u in 0..m {
         if f[u as usize] {
             c += 1;
         }
-        u += 1;
     }
     c
 }

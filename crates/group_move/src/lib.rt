@@ -33,10 +33,8 @@ pub fn move_contents(p: Plan, q: Plan, old: &[u8], new: &mut [u8])
 {
     let m = p.n + p.k;
     let starts = updates::image_starts(q, new.len(), 0);
-    let mut c: usize = 0;
-    while c < m {
+    for c in 0..m {
         move_content(p, q, starts, old, new, c);
-        c += 1;
     }
 }
 
@@ -45,9 +43,7 @@ pub fn clear_units(starts: [usize; 19], count: usize, u: usize, new: &mut [u8])
     requires { (count ≤ 19) × ((i : ℕ) → i < count → get_or starts i 0 + u ≤ length new.old) }
     ensures { new.new ≡ units_cleared starts u count new.old }
 {
-    let mut i: usize = 0;
-    while i < count {
+    for i in 0..count {
         runs::clear_run(new, starts[i], u);
-        i += 1;
     }
 }

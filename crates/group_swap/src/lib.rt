@@ -31,10 +31,8 @@ fn copy_units(
     requires { (m ≤ 19) × ((c : ℕ) → c < m → get_or on c false ≡ true → (get_or from c 0 + len ≤ length src.now) × (get_or to c 0 + len ≤ length out.old)) }
     ensures { out.new ≡ units_copied on from to len src.now m out.old }
 {
-    let mut c: usize = 0;
-    while c < m {
+    for c in 0..m {
         copy_unit(on[c], from[c], to[c], len, src, out);
-        c += 1;
     }
 }
 
@@ -61,13 +59,11 @@ fn rooms_of(from: [usize; 19], to: [usize; 19], m: usize) -> Rooms
     let mut moves = [false; 19];
     let mut at = [0usize; 19];
     let mut room: usize = 0;
-    let mut c: usize = 0;
-    while c < m {
+    for c in 0..m {
         let taken = from[c] != to[c];
         moves[c] = taken;
         at[c] = room;
         room = next_room(room, taken);
-        c += 1;
     }
     Rooms { moves, at }
 }

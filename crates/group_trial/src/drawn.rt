@@ -98,10 +98,8 @@ pub fn units_by(seed: &mut u64, g: Group) -> Units
     let m = how_many(seed, g.k);
     let contents = g.n + g.k;
     let mut at = [0u64; 4];
-    let mut i: u64 = 0;
-    while i < m {
+    for i in 0..m {
         at[i as usize] = draw(seed, contents);
-        i += 1;
     }
     let again = draw(seed, 4);
     if again == 0 {

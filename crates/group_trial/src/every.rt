@@ -37,10 +37,8 @@ fn pattern(x: u64, i: u64) -> u8
 fn lay(bytes: &mut [u8], x: u64)
     requires { (x < 6859) × (length bytes.old ≤ 19) }
 {
-    let mut i: usize = 0;
-    while i < bytes.len() {
+    for i in 0..bytes.len() {
         bytes[i] = pattern(x, i as u64);
-        i += 1;
     }
 }
 
@@ -50,10 +48,8 @@ fn sum_over(start: u64, bytes: &[u8]) -> u64
     ensures { result < 2147483647 }
 {
     let mut sum = start;
-    let mut i: usize = 0;
-    while i < bytes.len() {
+    for i in 0..bytes.len() {
         sum = next_sum(sum, bytes[i]);
-        i += 1;
     }
     sum
 }
@@ -82,10 +78,8 @@ fn size(rt: &impl Print, buffer: &mut [u8], g: Group)
 {
     let total = lists_of(g.n + g.k, g.k);
     let mut sum: u64 = 0;
-    let mut x: u64 = 0;
-    while x < total {
+    for x in 0..total {
         sum = one(buffer, g, x, sum);
-        x += 1;
     }
     text(rt, b"every");
     number(rt, g.n);
@@ -96,11 +90,9 @@ fn size(rt: &impl Print, buffer: &mut [u8], g: Group)
 }
 
 pub fn sizes(rt: &impl Print, buffer: &mut [u8]) {
-    let mut n: u64 = 1;
-    while n < 17 {
+    for n in 1..17 {
         size(rt, buffer, Group { n, k: 1, u: 1 });
         size(rt, buffer, Group { n, k: 2, u: 1 });
         size(rt, buffer, Group { n, k: 3, u: 1 });
-        n += 1;
     }
 }

@@ -134,10 +134,8 @@ pub fn repair_group(p: Plan, homes: [usize; 19], image: &mut [u8])
     ensures { image.new ≡ group_mended p homes image.old }
 {
     let m = p.n + p.k;
-    let mut c: usize = 0;
-    while c < m {
+    for c in 0..m {
         mend_unit(p, homes, image, c);
-        c += 1;
     }
 }
 
@@ -163,9 +161,7 @@ pub fn read_group(p: Plan, image: &[u8], s: usize, a: usize, out: &mut [u8])
 {
     let n = p.n;
     let u = p.u;
-    let mut v: usize = 0;
-    while v < n {
+    for v in 0..n {
         read_unit(p, image, s + u * v, a, v, out);
-        v += 1;
     }
 }

@@ -11,10 +11,8 @@ const ONES: u64 = 18446744073709551615;
 
 // A line buffer before a call, to see that all of it is written.
 fn blur(line: &mut [u8]) {
-    let mut i = 0;
-    while i < line.len() {
+    for i in 0..line.len() {
         line[i] = 170;
-        i += 1;
     }
 }
 
@@ -54,19 +52,15 @@ fn show_target(
     frames: u64,
     line: &mut [u8],
 ) {
-    let mut frame = 0;
-    while frame < frames {
+    for frame in 0..frames {
         show_line(rt, y, image, target, frame, line);
-        frame += 1;
     }
 }
 
 fn show_targets(rt: &impl Print, y: Layout, image: &[u8], frames: u64, line: &mut [u8]) {
     let targets = y.p;
-    let mut target = 0;
-    while target < targets {
+    for target in 0..targets {
         show_target(rt, y, image, target, frames, line);
-        target += 1;
     }
 }
 
@@ -122,19 +116,15 @@ fn drawn_pool(rt: &impl Print, seed: &mut u64, space: &mut [u8]) {
 }
 
 fn drawn_pools(rt: &impl Print, seed: &mut u64, space: &mut [u8]) {
-    let mut i: u64 = 0;
-    while i < 24 {
+    for i in 0..24 {
         drawn_pool(rt, seed, space);
-        i += 1;
     }
 }
 
 fn show_ten(rt: &impl Print, y: Layout, image: &[u8], line: &mut [u8]) {
     let frames: [u64; 10] = [0, 15, 16, 255, 256, 4095, 4096, 48879, 65534, 65535];
-    let mut i = 0;
-    while i < 10 {
+    for i in 0..10 {
         show_line(rt, y, image, 0, frames[i], line);
-        i += 1;
     }
 }
 
@@ -167,10 +157,8 @@ fn sum_line(rt: &impl Print, y: Layout, image: &[u8], target: u64, line: &mut [u
 
 fn sum_lines(rt: &impl Print, y: Layout, image: &[u8], line: &mut [u8]) {
     let targets = y.p;
-    let mut target = 0;
-    while target < targets {
+    for target in 0..targets {
         sum_line(rt, y, image, target, line);
-        target += 1;
     }
 }
 
@@ -194,11 +182,9 @@ fn summed_pool(rt: &impl Print, seed: &mut u64, p: u64, u: u64, image: &mut [u8]
 
 fn print_bytes(rt: &impl Print, bytes: [u8; 20]) {
     text(rt, b" ");
-    let mut i = 0;
-    while i < 20 {
+    for i in 0..20 {
         let byte = bytes[i];
         let _ = print!(rt; "{byte:02x}");
-        i += 1;
     }
 }
 

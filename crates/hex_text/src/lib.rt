@@ -113,10 +113,8 @@ fn write_head(target: u64, frame: u64, text: &mut [u8], at: usize)
     requires { at + 10 ≤ length text.old }
     ensures { Span (head_from at target frame) at (at + 10) text.old text.new }
 {
-    let mut i = 0;
-    while i < 10 {
+    for i in 0..10 {
         text[at + i] = head_char(target, frame, i);
-        i += 1;
     }
 }
 
@@ -161,11 +159,9 @@ pub fn is_digits(text: &[u8], from: usize, n: usize) -> bool
     requires { from + n ≤ length text.now }
     ensures { result ≡ digits_at text.now from n }
 {
-    let mut i = 0;
     let mut largest: u8 = 0;
-    while i < n {
+    for i in 0..n {
         largest = larger(largest, digit_or_16(text[from + i]));
-        i += 1;
     }
     largest < 16
 }
@@ -175,12 +171,10 @@ pub fn number_at(text: &[u8], from: usize, n: usize) -> u64
     requires { (from + n ≤ length text.now) × (n ≤ 16) }
     ensures { result ≡ number_at text.now from n }
 {
-    let mut i = 0;
     let mut number: u64 = 0;
-    while i < n {
+    for i in 0..n {
         let digit = digit_or_16(text[from + i]) % 16;
         number = 16 * number + digit as u64;
-        i += 1;
     }
     number
 }
@@ -208,11 +202,9 @@ fn pairs_at(text: &[u8], from: usize) -> [u16; 32]
     ensures { Pairs text.now from result }
 {
     let mut pairs = [0u16; 32];
-    let mut o = 0;
-    while o < 32 {
+    for o in 0..32 {
         let at = from + 2 * o;
         pairs[o] = pair_of(text[at], text[at + 1]);
-        o += 1;
     }
     pairs
 }
@@ -223,10 +215,8 @@ fn tell_block(text: &[u8], from: usize, image: &mut [u8], begins: usize)
     ensures { Span (bytes_from text.now from begins) begins (begins + 32) image.old image.new }
 {
     let pairs = pairs_at(text, from);
-    let mut o = 0;
-    while o < 32 {
+    for o in 0..32 {
         image[begins + o] = told_by(pairs[o]);
-        o += 1;
     }
 }
 
@@ -234,11 +224,9 @@ fn tell_rest(text: &[u8], from: usize, image: &mut [u8], begins: usize, u: usize
     requires { (from + 2 * u ≤ length text.now) × (begins + u ≤ length image.old) × (digits_at text.now from (2 * u) ≡ true) }
     ensures { Span (bytes_from text.now from begins) begins (begins + u) image.old image.new }
 {
-    let mut o = 0;
-    while o < u {
+    for o in 0..u {
         let at = from + 2 * o;
         image[begins + o] = told_by(pair_of(text[at], text[at + 1]));
-        o += 1;
     }
 }
 
@@ -261,12 +249,10 @@ fn head_right(text: &[u8], at: usize, target: u64, frame: u64) -> bool
     requires { at + 10 ≤ length text.now }
     ensures { result ≡ head_right text.now at target frame }
 {
-    let mut j = 0;
-    while j < 10 {
+    for j in 0..10 {
         if text[at + j] != head_char(target, frame, j) {
             return false;
         }
-        j += 1;
     }
     true
 }

@@ -32,12 +32,10 @@ pub fn is_listed(failed: [u64; 3], j: usize, t: u64) -> bool
     requires { j ≤ 3 }
     ensures { result ≡ listed (at failed) j t }
 {
-    let mut i: usize = 0;
-    while i < j {
+    for i in 0..j {
         if failed[i] == t {
             return true;
         }
-        i += 1;
     }
     false
 }
@@ -49,8 +47,7 @@ fn entries_good(y: Layout, r: Record) -> bool
 {
     let failed = r.failed;
     let k = r.k as usize;
-    let mut i: usize = 0;
-    while i < k {
+    for i in 0..k {
         let t = failed[i];
         if y.p <= t {
             return false;
@@ -58,7 +55,6 @@ fn entries_good(y: Layout, r: Record) -> bool
         if is_listed(failed, i, t) {
             return false;
         }
-        i += 1;
     }
     true
 }
@@ -94,12 +90,10 @@ fn place_of(failed: [u64; 3], k: usize, t: u64) -> usize
     requires { k ≤ 3 }
     ensures { result ≡ place_in (at failed) k t }
 {
-    let mut i: usize = 0;
-    while i < k {
+    for i in 0..k {
         if failed[i] == t {
             return i;
         }
-        i += 1;
     }
     k
 }
@@ -131,10 +125,8 @@ pub fn without(r: Record, t: u64) -> Record
     let last = k as usize - 1;
     let place = place_of(old, k as usize, t);
     let mut failed = [0u64; 3];
-    let mut i: usize = 0;
-    while i < 3 {
+    for i in 0..3 {
         failed[i] = entry_without(old, last, place, i);
-        i += 1;
     }
     Record {
         failed,
@@ -149,12 +141,10 @@ pub fn is_home(homes: [usize; 19], m: usize, u: usize) -> bool
     requires { m ≤ 19 }
     ensures { result ≡ listed (at homes) m u }
 {
-    let mut c: usize = 0;
-    while c < m {
+    for c in 0..m {
         if homes[c] == u {
             return true;
         }
-        c += 1;
     }
     false
 }
@@ -196,12 +186,10 @@ fn free_spare(
     requires { (m ≤ 19) × (m + spares ≤ 22) × (j ≤ 3) }
     ensures { (result ≡ lowest (free (at targets) m (at failed) j (at homes)) spares) × (result ≤ spares) }
 {
-    let mut spare: usize = 0;
-    while spare < spares {
+    for spare in 0..spares {
         if is_free(targets, homes, m, failed, j, spare) {
             return spare;
         }
-        spare += 1;
     }
     spares
 }
@@ -227,11 +215,9 @@ fn moved(
     let to = m + free_spare(targets, homes, m, spares, failed, j + 1);
     let gone = failed[j];
     let mut after = [0usize; 19];
-    let mut c: usize = 0;
-    while c < m {
+    for c in 0..m {
         let home = homes[c];
         after[c] = chosen(wide(targets[home]) == gone, to, home);
-        c += 1;
     }
     after
 }
@@ -241,10 +227,8 @@ fn own_places() -> [usize; 19]
     ensures { (c : ℕ) → c < 19 → at result c ≡ c }
 {
     let mut homes = [0usize; 19];
-    let mut c: usize = 0;
-    while c < 19 {
+    for c in 0..19 {
         homes[c] = c;
-        c += 1;
     }
     homes
 }
@@ -262,11 +246,9 @@ pub fn homes_of(
     ensures { HomesAre targets m spares failed j result }
 {
     let mut homes = own_places();
-    let mut i: usize = 0;
-    while i < j {
+    for i in 0..j {
         let next = moved(targets, homes, m, spares, failed, i);
         homes = next;
-        i += 1;
     }
     homes
 }
@@ -284,11 +266,9 @@ pub fn missing_of(
     ensures { MissingAre targets homes m failed k result }
 {
     let mut missing = [false; 19];
-    let mut c: usize = 0;
-    while c < m {
+    for c in 0..m {
         let home = homes[c];
         missing[c] = is_listed(failed, k, wide(targets[home]));
-        c += 1;
     }
     missing
 }

@@ -15,10 +15,8 @@ fn double_run(acc: &mut [u8; 192], m: usize)
     requires { (length acc.old ≡ 192) × (m ≤ 192) }
     ensures { Span (λ i. double (get_or acc.old i 0)) 0 m acc.old acc.new }
 {
-    let mut i = 0;
-    while i < m {
+    for i in 0..m {
         acc[i] = field::double(acc[i]);
-        i += 1;
     }
 }
 
@@ -27,10 +25,8 @@ fn xor_run(acc: &mut [u8; 192], src: &[u8], s: usize, m: usize)
     requires { (length acc.old ≡ 192) × (m ≤ 192) × (s + m ≤ length src.now) }
     ensures { Span (λ i. get_or acc.old i 0 ⊕ get_or src.now (s + i) 0) 0 m acc.old acc.new }
 {
-    let mut i = 0;
-    while i < m {
+    for i in 0..m {
         acc[i] = acc[i] ^ src[s + i];
-        i += 1;
     }
 }
 
@@ -47,11 +43,9 @@ fn add_plane(
     requires { (length acc.old ≡ 192) × (m ≤ 192) × Reach list.now base count (o + m) (length src.now) }
     ensures { Span (λ i. get_or acc.old i 0 ⊕ picked src.now list.now base count (o + i)) 0 m acc.old acc.new }
 {
-    let mut q = 0;
-    while q < count {
+    for q in 0..count {
         let s = list[base + q] + o;
         xor_run(acc, src, s, m);
-        q += 1;
     }
 }
 
@@ -108,11 +102,9 @@ fn fill_lowest(list: &mut [usize; 128], starts: &[usize; 16], coefs: &[u8; 16], 
     ensures { Plane starts.now coefs.now n 0 list.new result }
 {
     let mut c: usize = 0;
-    let mut j = 0;
-    while j < n {
+    for j in 0..n {
         list[c] = starts[j];
         c += digit(coefs[j], 0);
-        j += 1;
     }
     c
 }
@@ -131,12 +123,10 @@ fn spread(
 {
     let s = starts[j];
     let c = coefs[j];
-    let mut k = 0;
-    while k < 8 {
+    for k in 0..8 {
         let q = counts[k];
         list[k * 16 + q] = s;
         counts[k] = q + digit(c, k);
-        k += 1;
     }
 }
 
@@ -157,10 +147,8 @@ fn plan(
         counts[0] = c;
         return counts;
     }
-    let mut j = 0;
-    while j < n {
+    for j in 0..n {
         spread(list, &mut counts, starts, coefs, j);
-        j += 1;
     }
     counts
 }
@@ -208,10 +196,8 @@ fn top_of(coefs: &[u8; 16], n: usize) -> usize
     ensures { (result ≤ 8) × ((j : ℕ) → j < n → get_or coefs.now j 0 < 2 ^ result) }
 {
     let mut most: u8 = 0;
-    let mut j = 0;
-    while j < n {
+    for j in 0..n {
         most = larger(most, coefs[j]);
-        j += 1;
     }
     digits(most)
 }
@@ -221,10 +207,8 @@ fn add_block(out: &mut [u8], b: &[u8; 192], o: usize, m: usize)
     requires { (m ≤ 192) × (o + m ≤ length out.old) }
     ensures { Span (λ y. get_or out.old y 0 ⊕ get_or b.now (y - o) 0) o (o + m) out.old out.new }
 {
-    let mut i = 0;
-    while i < m {
+    for i in 0..m {
         out[o + i] = out[o + i] ^ b[i];
-        i += 1;
     }
 }
 
@@ -233,10 +217,8 @@ pub fn put_block(out: &mut [u8], b: &[u8], o: usize, m: usize)
     requires { (m ≤ length b.now) × (o + m ≤ length out.old) }
     ensures { Span (λ y. get_or b.now (y - o) 0) o (o + m) out.old out.new }
 {
-    let mut i = 0;
-    while i < m {
+    for i in 0..m {
         out[o + i] = b[i];
-        i += 1;
     }
 }
 

@@ -13,11 +13,9 @@ fn has_newline(piece: &[u8], at: usize, n: usize) -> bool
     requires { at + n ≤ length piece.now }
     ensures { result ≡ newline_within piece.now at n }
 {
-    let mut i = 0;
     let mut found = false;
-    while i < n {
+    for i in 0..n {
         found = (piece[at + i] == 10) | found;
-        i += 1;
     }
     found
 }
@@ -85,10 +83,8 @@ pub fn keep(piece: &[u8], from: usize, end: usize, line: &mut [u8], held: usize)
     ensures room { (result ≤ 8301) × (length line.new ≡ 8301) }
 {
     let count = smaller(end - from, 8301 - held);
-    let mut i = 0;
-    while i < count {
+    for i in 0..count {
         line[held + i] = piece[from + i];
-        i += 1;
     }
     held + count
 }

@@ -19,9 +19,7 @@ pub fn first(a: u64, b: u64) -> u64
 pub fn clear(out: &mut [u8])
     ensures { out.new ≡ zeros (length out.old) }
 {
-    let mut i = 0;
-    while i < out.len() {
+    for i in 0..out.len() {
         out[i] = 0;
-        i += 1;
     }
 }

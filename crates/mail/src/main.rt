@@ -14,12 +14,10 @@ fn blur(bytes: &mut [u8]) {
 }
 
 fn is_zeros(bytes: &[u8]) -> bool {
-    let mut i = 0;
-    while i < bytes.len() {
+    for i in 0..bytes.len() {
         if bytes[i] != 0 {
             return false;
         }
-        i += 1;
     }
     true
 }
@@ -27,14 +25,12 @@ fn is_zeros(bytes: &[u8]) -> bool {
 // Copies a piece to the place `from` of a copy, as far as there is room, and answers where the next one goes.
 fn append(piece: &[u8], copy: &mut [u8], from: usize) -> usize {
     let mut at = from;
-    let mut i = 0;
-    while i < piece.len() {
+    for i in 0..piece.len() {
         if copy.len() <= at {
             return at;
         }
         copy[at] = piece[i];
         at += 1;
-        i += 1;
     }
     at
 }

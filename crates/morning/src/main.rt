@@ -12,10 +12,8 @@ use trial::{answer_line, decimal, text};
 
 // A photograph: letters of the alphabet from the given one on.
 fn photograph(bytes: &mut [u8], first: usize) {
-    let mut i = 0;
-    while i < bytes.len() {
+    for i in 0..bytes.len() {
         bytes[i] = (i % 26 + first % 26) as u8 % 26 + 97;
-        i += 1;
     }
 }
 

@@ -28,13 +28,11 @@ pub fn missing_below(miss: [bool; 19], n: usize) -> Few
 {
     let mut found = [0usize; 3];
     let mut d: usize = 0;
-    let mut j: usize = 0;
-    while j < n {
+    for j in 0..n {
         if miss[j] {
             found[d] = j;
             d += 1;
         }
-        j += 1;
     }
     Few {
         at: found,
@@ -49,13 +47,11 @@ fn present_parity(miss: [bool; 19], n: usize, k: usize) -> Few
 {
     let mut found = [0usize; 3];
     let mut c: usize = 0;
-    let mut i: usize = 0;
-    while i < k {
+    for i in 0..k {
         if !miss[n + i] {
             found[c] = i;
             c += 1;
         }
-        i += 1;
     }
     Few {
         at: found,
@@ -144,12 +140,10 @@ fn data_row(
     let lines = coefs_of(is);
     let mut row = [0u8; 16];
     let mut c: usize = 0;
-    let mut j: usize = 0;
-    while j < n {
+    for j in 0..n {
         let col = [lines[0][j], lines[1][j], lines[2][j]];
         row[j] = slot_coef(powers, logs, w, col, miss[j], c);
         c += one_if(miss[j]);
-        j += 1;
     }
     row
 }
@@ -226,11 +220,9 @@ fn parity_row(
     let own = systems::row(i);
     let across = coefs_across(i, ks);
     let mut row = [0u8; 16];
-    let mut j: usize = 0;
-    while j < n {
+    for j in 0..n {
         let col = [lines[0][j], lines[1][j], lines[2][j]];
         row[j] = parity_coef(powers, logs, own[j], across, col, miss[j]);
-        j += 1;
     }
     row
 }
@@ -348,11 +340,9 @@ pub fn slots(miss: [bool; 19], n: usize, k: usize) -> [usize; 16]
     let is = there.at;
     let mut units = [0usize; 16];
     let mut c: usize = 0;
-    let mut j: usize = 0;
-    while j < n {
+    for j in 0..n {
         units[j] = slot_unit(n, is, miss[j], c, j);
         c += one_if(miss[j]);
-        j += 1;
     }
     units
 }

@@ -62,11 +62,9 @@ fn ranks(miss: [bool; 19], m: usize) -> [usize; 19]
 {
     let mut r = [0usize; 19];
     let mut c: usize = 0;
-    let mut i: usize = 0;
-    while i < m {
+    for i in 0..m {
         r[i] = c;
         c += one_if(miss[i]);
-        i += 1;
     }
     r
 }
@@ -82,12 +80,10 @@ fn same_flags(a: [bool; 19], b: [bool; 19], m: usize) -> bool
     requires { m ≤ 19 }
     ensures { result ≡ true → (i : ℕ) → i < m → flag a i ≡ flag b i }
 {
-    let mut i: usize = 0;
-    while i < m {
+    for i in 0..m {
         if !alike(a[i], b[i]) {
             return false;
         }
-        i += 1;
     }
     true
 }

@@ -25,14 +25,12 @@ fn first_outside(capacity: u64, ranges: &[[u64; 2]]) -> u64
     requires { length ranges.now ≤ 64 }
     ensures { result ≡ first_failing (λ i. inside_of capacity (range_offset ranges.now i) (range_size ranges.now i)) (length ranges.now) }
 {
-    let mut i = 0;
-    while i < ranges.len() {
+    for i in 0..ranges.len() {
         let offset = ranges[i][0];
         let size = ranges[i][1];
         if !checks::is_inside(capacity, offset, size) {
             return i as u64 + 1;
         }
-        i += 1;
     }
     0
 }
@@ -43,10 +41,8 @@ fn sum_of_lengths(ranges: &[[u64; 2]]) -> u64
     ensures { result ≡ sum (range_size ranges.now) (length ranges.now) }
 {
     let mut total = 0;
-    let mut i = 0;
-    while i < ranges.len() {
+    for i in 0..ranges.len() {
         total += ranges[i][1];
-        i += 1;
     }
     total
 }
@@ -57,13 +53,11 @@ fn write_ranges(y: Layout, r: Record, image: &mut [u8], ranges: &[[u64; 2]], byt
     ensures { image.new ≡ after_ranges y r image.old ranges.now bytes.now (length ranges.now) }
 {
     let mut at = 0;
-    let mut i = 0;
-    while i < ranges.len() {
+    for i in 0..ranges.len() {
         let offset = ranges[i][0];
         let end = at + ranges[i][1] as usize;
         range_write::write_range(y, r, image, offset, &bytes[at..end]);
         at = end;
-        i += 1;
     }
 }
 

@@ -59,13 +59,11 @@ fn move_groups(y: Layout, r: Record, z: Layout, old: &[u8], new: &mut [u8])
     };
     let mut here = survey::begin(y, s, 0);
     let mut there = survey::begin(z, s, 0);
-    let mut g: u64 = 0;
-    while g < groups {
+    for g in 0..groups {
         here = survey::next(here, y, s, r, g);
         there = survey::next(there, z, s, none, g);
         let p = here.plan;
         move_group(p, there, z, s, g, old, new);
-        g += 1;
     }
 }
 

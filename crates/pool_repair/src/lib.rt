@@ -48,13 +48,11 @@ fn mend_groups(y: Layout, r: Record, image: &mut [u8]) -> u64
     let groups = numbers.groups;
     let mut survey = survey::begin(y, s, 0);
     let mut count: u64 = 0;
-    let mut g: u64 = 0;
-    while g < groups {
+    for g in 0..groups {
         survey = survey::next(survey, y, s, r, g);
         mend_group(survey, y, s, r, g, image);
         let plan = survey.plan;
         count += plan.gone as u64;
-        g += 1;
     }
     count
 }

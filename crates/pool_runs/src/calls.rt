@@ -54,10 +54,8 @@ pub fn entry(rec: Record, i: u64) -> u64 {
 
 // What a buffer holds before a call that fills it.
 pub fn stain(buffer: &mut [u8]) {
-    let mut i = 0;
-    while i < buffer.len() {
+    for i in 0..buffer.len() {
         buffer[i] = 170;
-        i += 1;
     }
 }
 

@@ -6,10 +6,8 @@ use numbers::Layout;
 
 // The bytes 1, 2, .. of a write.
 fn count_up(bytes: &mut [u8]) {
-    let mut i = 0;
-    while i < bytes.len() {
+    for i in 0..bytes.len() {
         bytes[i] = (i % 255) as u8 + 1;
-        i += 1;
     }
 }
 

@@ -55,8 +55,7 @@ fn swap_groups(y: Layout, r: Record, target: u64, image: &mut [u8]) -> Record
     let mut scratch = [0u8; 12288];
     let mut tile: u64 = 0;
     let mut to = place::permutation(y, 0);
-    let mut g: u64 = 0;
-    while g < groups {
+    for g in 0..groups {
         let here = g / s.c;
         to = survey::tile_to(y, tile, to, here);
         tile = here;
@@ -64,7 +63,6 @@ fn swap_groups(y: Layout, r: Record, target: u64, image: &mut [u8]) -> Record
         let old = shift.from;
         let new = shift.to;
         group_swap::move_units(old, new, m, u, image, &mut scratch);
-        g += 1;
     }
     less
 }

@@ -34,12 +34,10 @@ fn label(rt: &impl Print, quotient: bool) {
 
 fn print_row(rt: &impl Print, quotient: bool, x: u8) {
     let mut line = [0u8; 512];
-    let mut i: usize = 0;
-    while i < 256 {
+    for i in 0..256 {
         let v = value(quotient, x, i as u8);
         line[2 * i] = digit(v / 16);
         line[2 * i + 1] = digit(v % 16);
-        i += 1;
     }
     print_byte(rt, x);
     text(rt, b" ");
@@ -48,11 +46,9 @@ fn print_row(rt: &impl Print, quotient: bool, x: u8) {
 }
 
 fn print_rows(rt: &impl Print, quotient: bool) {
-    let mut x: usize = 0;
-    while x < 256 {
+    for x in 0..256 {
         label(rt, quotient);
         print_row(rt, quotient, x as u8);
-        x += 1;
     }
 }
 
@@ -61,10 +57,8 @@ fn print_coefficients(rt: &impl Print, i: usize)
 {
     text(rt, b"coefficients ");
     decimal(rt, i as u64);
-    let mut j: usize = 0;
-    while j < 16 {
+    for j in 0..16 {
         number(rt, systems::coef(i, j) as u64);
-        j += 1;
     }
     newline(rt);
 }

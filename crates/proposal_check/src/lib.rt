@@ -23,8 +23,7 @@ fn sources_good(missing: [bool; 19], m: usize, plan: &[u64], at: usize, n: usize
     ensures { result ≡ all (source_good_from missing m plan.now at) n }
 {
     let mut taken = missing;
-    let mut j: usize = 0;
-    while j < n {
+    for j in 0..n {
         let x = plan[at + j] as usize;
         if m <= x {
             return false;
@@ -33,7 +32,6 @@ fn sources_good(missing: [bool; 19], m: usize, plan: &[u64], at: usize, n: usize
             return false;
         }
         taken[x] = true;
-        j += 1;
     }
     true
 }

@@ -60,13 +60,11 @@ fn draw_group(
     let m = (y.n + y.k) as usize;
     let size = y.n as usize + 2;
     let mut next = at;
-    let mut c: usize = 0;
-    while c < m {
+    for c in 0..m {
         if missing[c] {
             draw_entry(y, missing, g, c, out, next);
             next += size;
         }
-        c += 1;
     }
     next
 }

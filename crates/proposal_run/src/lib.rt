@@ -20,11 +20,9 @@ fn left_out(proposal: &[u64], from: usize, n: usize) -> [bool; 19]
     ensures { LeftOut proposal.now from n result }
 {
     let mut missing = [true; 19];
-    let mut j: usize = 0;
-    while j < n {
+    for j in 0..n {
         let source = proposal[from + j] as usize;
         missing[source] = false;
-        j += 1;
     }
     missing
 }

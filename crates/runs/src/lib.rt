@@ -15,10 +15,8 @@ fn taken(src: &[u8], from: usize, m: usize) -> [u8; 128]
     ensures { (length result ≡ 128) × ((i : ℕ) → i < m → get_or result i 0 ≡ run_of src.now from i) }
 {
     let mut b = [0u8; 128];
-    let mut i: usize = 0;
-    while i < m {
+    for i in 0..m {
         b[i] = src[from + i];
-        i += 1;
     }
     b
 }
@@ -51,10 +49,8 @@ pub fn clear_run(out: &mut [u8], to: usize, len: usize)
     requires { to + len ≤ length out.old }
     ensures { out.new ≡ run_set to len zero_byte out.old }
 {
-    let mut i: usize = 0;
-    while i < len {
+    for i in 0..len {
         out[to + i] = 0;
-        i += 1;
     }
 }
 
@@ -67,10 +63,8 @@ fn slot_starts(p: Plan, size: usize, lo: usize) -> [usize; 16]
     let at = p.at;
     let slots = p.slots;
     let mut r = [0usize; 16];
-    let mut j: usize = 0;
-    while j < n {
+    for j in 0..n {
         r[j] = at[slots[j]] + lo;
-        j += 1;
     }
     r
 }

@@ -26,10 +26,8 @@ fn say_ranges(rt: &impl Print, ranges: &[[u64; 2]]) {
     if 3 < ranges.len() {
         return;
     }
-    let mut i = 0;
-    while i < ranges.len() {
+    for i in 0..ranges.len() {
         say_range(rt, ranges[i]);
-        i += 1;
     }
 }
 

@@ -34,14 +34,12 @@ pub fn sites_of(y: Layout, s: Shape, to: &[u8; 64], g: u64) -> Sites
     let mut targets = [0u8; 22];
     let mut starts = [0usize; 22];
     let mut cell = place::cell_of(y, s, g, 0);
-    let mut u: usize = 0;
-    while u < w {
+    for u in 0..w {
         let a = place::place_at(to, cell);
         let start = place::spot_of(y, s, a, 0);
         targets[u] = a.target as u8;
         starts[u] = start as usize;
         cell = place::next_cell(y, cell);
-        u += 1;
     }
     Sites { targets, starts }
 }
@@ -53,13 +51,11 @@ fn unit_starts(y: Layout, s: Shape, to: &[u8; 64], g: u64, first: u64, count: us
 {
     let mut at = [0usize; 19];
     let mut cell = place::cell_of(y, s, g, first);
-    let mut c: usize = 0;
-    while c < count {
+    for c in 0..count {
         let a = place::place_at(to, cell);
         let start = place::spot_of(y, s, a, 0);
         at[c] = start as usize;
         cell = place::next_cell(y, cell);
-        c += 1;
     }
     at
 }
@@ -93,12 +89,10 @@ fn own_missing(y: Layout, s: Shape, r: Record, to: &[u8; 64], g: u64) -> [bool; 
     let k = r.k as usize;
     let mut missing = [false; 19];
     let mut cell = place::cell_of(y, s, g, 0);
-    let mut c: usize = 0;
-    while c < m {
+    for c in 0..m {
         let a = place::place_at(to, cell);
         missing[c] = homes::is_listed(failed, k, a.target);
         cell = place::next_cell(y, cell);
-        c += 1;
     }
     missing
 }
@@ -109,11 +103,9 @@ fn home_starts(starts: [usize; 22], homes: [usize; 19], m: usize) -> [usize; 19]
     ensures { (c : ℕ) → c < m → get_or result c 0 ≡ get_or starts (get_or homes c 0) 0 }
 {
     let mut at = [0usize; 19];
-    let mut c: usize = 0;
-    while c < m {
+    for c in 0..m {
         let unit = homes[c];
         at[c] = starts[unit];
-        c += 1;
     }
     at
 }

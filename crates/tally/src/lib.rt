@@ -51,11 +51,9 @@ fn in_tile(y: Layout, s: Shape, r: Record, target: u64, tile: u64) -> u64
     let column = tile::column_of(&to, target);
     let rows = s.l;
     let mut n: u64 = 0;
-    let mut row: u64 = 0;
-    while row < rows {
+    for row in 0..rows {
         let unit = place::unit_at(y, s, tile, row, column);
         n += one_if(is_home(y, s, r, &to, unit));
-        row += 1;
     }
     n
 }
@@ -67,10 +65,8 @@ pub fn on_target(y: Layout, s: Shape, r: Record, target: u64) -> u64
 {
     let tiles = y.t;
     let mut n: u64 = 0;
-    let mut tile: u64 = 0;
-    while tile < tiles {
+    for tile in 0..tiles {
         n += in_tile(y, s, r, target, tile);
-        tile += 1;
     }
     n
 }
@@ -84,10 +80,8 @@ pub fn missing_units(y: Layout, r: Record) -> u64
     let failed = r.failed;
     let k = r.k as usize;
     let mut n: u64 = 0;
-    let mut i = r.q as usize;
-    while i < k {
+    for i in (r.q as usize)..k {
         n += on_target(y, s, r, failed[i]);
-        i += 1;
     }
     n
 }

@@ -90,10 +90,8 @@ fn own_indices() -> [u8; 64]
     ensures { result ≡ own }
 {
     let mut a = [0u8; 64];
-    let mut t: usize = 0;
-    while t < 64 {
+    for t in 0..64 {
         a[t] = t as u8;
-        t += 1;
     }
     a
 }
@@ -132,11 +130,9 @@ fn inverted(a: [u8; 64]) -> [u8; 64]
     ensures { result ≡ inverse_of a }
 {
     let mut b = [0u8; 64];
-    let mut t: usize = 0;
-    while t < 64 {
+    for t in 0..64 {
         let v = a[t] as usize;
         b[v] = t as u8;
-        t += 1;
     }
     b
 }
@@ -146,12 +142,10 @@ pub fn column_of(a: &[u8; 64], t: u64) -> u64
     requires { (length a.now ≡ 64) × Permutes 64 a.now × (t < 64) }
     ensures { result ≡ at (inverse_of a.now) t }
 {
-    let mut column: usize = 0;
-    while column < 64 {
+    for column in 0..64 {
         if a[column] as u64 == t {
             return column as u64;
         }
-        column += 1;
     }
     0
 }

@@ -42,10 +42,8 @@ pub fn high(seed: &mut u64) -> u64 {
 
 // A byte for each place of out.
 pub fn fill(seed: &mut u64, out: &mut [u8]) {
-    let mut i = 0;
-    while i < out.len() {
+    for i in 0..out.len() {
         out[i] = draw(seed, 256) as u8;
-        i += 1;
     }
 }
 
@@ -88,10 +86,8 @@ pub fn answer_line(rt: &impl Print, refusal: u64) {
 // ---- runs of bytes
 
 pub fn set_all(bytes: &mut [u8], value: u8) {
-    let mut i = 0;
-    while i < bytes.len() {
+    for i in 0..bytes.len() {
         bytes[i] = value;
-        i += 1;
     }
 }
 
@@ -99,12 +95,10 @@ pub fn is_same(a: &[u8], b: &[u8]) -> bool {
     if a.len() != b.len() {
         return false;
     }
-    let mut i = 0;
-    while i < a.len() {
+    for i in 0..a.len() {
         if a[i] != b[i] {
             return false;
         }
-        i += 1;
     }
     true
 }
@@ -122,10 +116,8 @@ pub fn say_same(rt: &impl Print, a: &[u8], b: &[u8]) {
 
 pub fn checksum(bytes: &[u8]) -> u64 {
     let mut c: u64 = 0;
-    let mut i = 0;
-    while i < bytes.len() {
+    for i in 0..bytes.len() {
         c = (c * 31 + wide_byte(bytes[i]) + 1) % 2147483647;
-        i += 1;
     }
     c
 }

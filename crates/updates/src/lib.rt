@@ -34,10 +34,8 @@ pub fn image_starts(p: Plan, size: usize, lo: usize) -> [usize; 16]
     let n = p.n;
     let at = p.at;
     let mut r = [0usize; 16];
-    let mut j: usize = 0;
-    while j < n {
+    for j in 0..n {
         r[j] = at[j] + lo;
-        j += 1;
     }
     r
 }
@@ -66,10 +64,8 @@ fn byte_starts(
     ensures { (j : ℕ) → j < n → get_or result j 0 ≡ byte_start u s a from units lo j }
 {
     let mut r = [0usize; 16];
-    let mut j: usize = 0;
-    while j < n {
+    for j in 0..n {
         r[j] = byte_start(u, s, a, from, units, lo, j);
-        j += 1;
     }
     r
 }
@@ -93,10 +89,8 @@ fn lost_starts(p: Plan) -> [usize; 16]
     let missing = p.missing;
     let rank = p.rank;
     let mut r = [0usize; 16];
-    let mut j: usize = 0;
-    while j < n {
+    for j in 0..n {
         r[j] = lost_start(missing[j], rank[j]);
-        j += 1;
     }
     r
 }
@@ -154,10 +148,8 @@ fn store_data(
     ensures { image.new ≡ paint (stores_in p (withinRun from units)) (λ c. at_of p c + lo) len (λ c. run_of bytes.now (get_or starts c 0)) p.n image.old }
 {
     let n = p.n;
-    let mut c: usize = 0;
-    while c < n {
+    for c in 0..n {
         store_unit(p, image, bytes, starts, from, units, lo, len, c);
-        c += 1;
     }
 }
 
@@ -192,10 +184,8 @@ fn put_wholes(p: Plan, image: &mut [u8], bytes: &[u8], starts: [usize; 16], lo: 
     ensures { image.new ≡ paint (standing p) (parity_at p lo) len (whole_parity p bytes.now starts) p.k image.old }
 {
     let k = p.k;
-    let mut i: usize = 0;
-    while i < k {
+    for i in 0..k {
         put_whole(p, image, bytes, starts, lo, len, i);
-        i += 1;
     }
 }
 
@@ -220,11 +210,9 @@ fn halved(row: [u8; 16], gone: [bool; 19], n: usize) -> Halves
 {
     let mut present = [0u8; 16];
     let mut missing = [0u8; 16];
-    let mut j: usize = 0;
-    while j < n {
+    for j in 0..n {
         present[j] = keep(!gone[j], row[j]);
         missing[j] = keep(gone[j], row[j]);
-        j += 1;
     }
     Halves { present, missing }
 }
@@ -286,10 +274,8 @@ fn put_parities(p: Plan, image: &mut [u8], lost: &[u8], lo: usize, len: usize)
 {
     let starts = image_starts(p, image.len(), lo);
     let k = p.k;
-    let mut i: usize = 0;
-    while i < k {
+    for i in 0..k {
         put_parity(p, image, lost, starts, lo, len, i);
-        i += 1;
     }
 }
 
@@ -340,10 +326,8 @@ fn keep_lost(
     ensures { lost.new ≡ paint (miss_of p) (rank_place p) len (kept_run p image.now bytes.now starts from units lo) p.n lost.old }
 {
     let n = p.n;
-    let mut c: usize = 0;
-    while c < n {
+    for c in 0..n {
         keep_unit(p, image, bytes, starts, from, units, lo, len, lost, c);
-        c += 1;
     }
 }
 

@@ -6,6 +6,3 @@ use Rattle.answers.proofs.block_at.Given as goal
 
 abbrev pub invariant-loop-j : goal.invariant-loop-j
 invariant-loop-j l = (l.j ≤ 64) × (length l.block ≡ 64) × ((k : ℕ) → k < l.j → at l.block k ≡ at l.text (l.from + k))
-
-abbrev pub decreases-loop-j : goal.decreases-loop-j
-decreases-loop-j l = 64 - l.j

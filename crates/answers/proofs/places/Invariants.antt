@@ -6,6 +6,3 @@ use Rattle.answers.proofs.places.Given as goal
 
 abbrev pub invariant-loop-i : goal.invariant-loop-i
 invariant-loop-i l = (l.i ≤ 19) × (l.rest ≡ tenths l.i l.n) × Longer l.n l.i
-
-abbrev pub decreases-loop-i : goal.decreases-loop-i
-decreases-loop-i l = 19 - l.i

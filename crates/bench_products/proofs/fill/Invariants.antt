@@ -6,6 +6,3 @@ use Rattle.bench_products.proofs.fill.Given as goal
 
 abbrev pub invariant-loop-i : goal.invariant-loop-i
 invariant-loop-i l = (l.i ≤ length l.initial.out) × (length l.out ≡ length l.initial.out) × ((x : ℕ) → x < l.i → get_or l.out x 0 ≡ mul (get_or l.a x 0) (get_or l.b x 0))
-
-abbrev pub decreases-loop-i : goal.decreases-loop-i
-decreases-loop-i l = length l.initial.out - l.i

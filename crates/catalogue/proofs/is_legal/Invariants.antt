@@ -5,6 +5,3 @@ use Rattle.catalogue.proofs.is_legal.Given as goal
 
 abbrev pub invariant-loop-i : goal.invariant-loop-i
 invariant-loop-i l = record { upto : l.i ≤ l.n; kept : l.x ≡ passes_of fresh_pass (take l.i l.s) }
-
-abbrev pub decreases-loop-i : goal.decreases-loop-i
-decreases-loop-i l = l.n - l.i

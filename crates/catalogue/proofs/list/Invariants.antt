@@ -5,6 +5,3 @@ use Rattle.catalogue.proofs.list.Given as goal
 
 abbrev pub invariant-loop-i : goal.invariant-loop-i
 invariant-loop-i l = record { upto : l.i ≤ l.count; kept : l.out ≡ listed l.i l.from l.s l.fn.out }
-
-abbrev pub decreases-loop-i : goal.decreases-loop-i
-decreases-loop-i l = l.count - l.i

@@ -5,6 +5,3 @@ use Rattle.catalogue.proofs.wipe.Given as goal
 
 abbrev pub invariant-loop-i : goal.invariant-loop-i
 invariant-loop-i l = record { upto : l.i ≤ l.m; kept : l.out ≡ wiped l.i l.fn.out }
-
-abbrev pub decreases-loop-i : goal.decreases-loop-i
-decreases-loop-i l = l.m - l.i

@@ -3,6 +3,3 @@ use Rattle.catalogue_runs.proofs.main.Given as goal
 
 abbrev pub invariant-loop-c : goal.invariant-loop-c
 invariant-loop-c l = l.c ≤ 2400
-
-abbrev pub decreases-loop-c : goal.decreases-loop-c
-decreases-loop-c l = 2400 - l.c

@@ -3,6 +3,3 @@ use Rattle.catalogue_runs.proofs.print_slots.Given as goal
 
 abbrev pub invariant-loop-i : goal.invariant-loop-i
 invariant-loop-i g l = l.i ≤ 8
-
-abbrev pub decreases-loop-i : goal.decreases-loop-i
-decreases-loop-i g l = 8 - l.i

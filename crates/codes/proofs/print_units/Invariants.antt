@@ -3,6 +3,3 @@ use Rattle.codes.proofs.print_units.Given as goal
 
 abbrev pub invariant-loop-i : goal.invariant-loop-i
 invariant-loop-i g l = l.i ≤ l.count % 5
-
-abbrev pub decreases-loop-i : goal.decreases-loop-i
-decreases-loop-i g l = l.count % 5 - l.i

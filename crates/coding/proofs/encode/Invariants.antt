@@ -6,6 +6,3 @@ use Rattle.coding.proofs.encode.Given as goal
 
 abbrev pub invariant-loop-i : goal.invariant-loop-i
 invariant-loop-i l = (l.i ≤ l.k) × (l.at ≡ (l.n + l.i) * l.unit) × (l.n * l.unit ≤ l.at) × Span (content_byte l.n l.unit l.initial.buf) (l.n * l.unit) l.at l.initial.buf l.buf
-
-abbrev pub decreases-loop-i : goal.decreases-loop-i
-decreases-loop-i l = l.k - l.i

@@ -9,6 +9,3 @@ abbrev pub invariant-loop-q : goal.invariant-loop-q
 invariant-loop-q l = (l.q ≤ l.total) × (length l.buf ≡ length l.initial.buf) × ((miss : ℕ → Bool)
     → Ready l.n l.k l.unit miss l.units l.total l.rows l.starts l.last
     → Mended l.n l.k l.unit miss l.initial.buf l.buf l.q)
-
-abbrev pub decreases-loop-q : goal.decreases-loop-q
-decreases-loop-q l = l.total - l.q

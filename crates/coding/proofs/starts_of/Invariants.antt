@@ -5,6 +5,3 @@ use Rattle.coding.proofs.starts_of.Given as goal
 
 abbrev pub invariant-loop-j : goal.invariant-loop-j
 invariant-loop-j l = (l.j ≤ l.n) × (length l.starts ≡ 16) × ((x : ℕ) → x < l.j → get_or l.starts x 0 ≡ get_or l.units x 0 * l.unit)
-
-abbrev pub decreases-loop-j : goal.decreases-loop-j
-decreases-loop-j l = l.n - l.j

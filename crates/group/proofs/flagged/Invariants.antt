@@ -6,6 +6,3 @@ use Rattle.group.proofs.flagged.Given as goal
 
 abbrev pub invariant-loop-u : goal.invariant-loop-u
 invariant-loop-u l = (l.u ≤ l.m) × (l.c ≡ count (flag l.f) l.u)
-
-abbrev pub decreases-loop-u : goal.decreases-loop-u
-decreases-loop-u l = l.m - l.u

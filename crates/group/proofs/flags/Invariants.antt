@@ -7,6 +7,3 @@ use Rattle.group.proofs.flags.Given as goal
 
 abbrev pub invariant-loop-i : goal.invariant-loop-i
 invariant-loop-i l = (l.i ≤ length l.missing) × (length l.f ≡ 19) × ((u : ℕ) → u < 19 → flag l.f u ≡ named_below l.missing l.i u)
-
-abbrev pub decreases-loop-i : goal.decreases-loop-i
-decreases-loop-i l = length l.missing - l.i

@@ -4,6 +4,3 @@ use Rattle.group.proofs.outside.Given as goal
 
 abbrev pub invariant-loop-i : goal.invariant-loop-i
 invariant-loop-i l = (l.i ≤ length l.missing) × ((k : ℕ) → k < l.i → get_or l.missing k 0 < l.m)
-
-abbrev pub decreases-loop-i : goal.decreases-loop-i
-decreases-loop-i l = length l.missing - l.i

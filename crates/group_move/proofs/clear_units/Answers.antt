@@ -18,12 +18,6 @@ bounds-starts-i c = omega (arith, c.requires.0)
 pub clear_run-requires : goal.clear_run-requires
 clear_run-requires c = omega (arith, c.requires.1 c.loop-i.i c.loop-i-test.true, c.loop-i.invariant.1)
 
-pub overflow_add-i : goal.overflow_add-i
-overflow_add-i c = omega (arith, c.requires.0)
-
-pub loop-i-smaller : goal.loop-i-smaller
-loop-i-smaller c = omega arith
-
 pub loop-i-preserved : goal.loop-i-preserved
 loop-i-preserved c = let l = c.loop-i in
     (omega arith, ap length c.clear_run.ensures ∙ length-run_set _ _ _ _ ∙ l.invariant.1, cleared_turn _ _ _ l.i l.new _ l.invariant.2 c.clear_run.ensures)

@@ -6,6 +6,3 @@ use Rattle.group_move.proofs.clear_units.Given as goal
 
 abbrev pub invariant-loop-i : goal.invariant-loop-i
 invariant-loop-i l = (l.i ≤ l.count) × (length l.new ≡ length l.initial.new) × (l.new ≡ units_cleared l.starts l.u l.i l.initial.new)
-
-abbrev pub decreases-loop-i : goal.decreases-loop-i
-decreases-loop-i l = l.count - l.i

@@ -20,12 +20,6 @@ pub move_content-requires : goal.move_content-requires
 move_content-requires c = let p = c.requires in
     (p.0, fits_at p.1 c.loop-c.invariant.1, p.2, p.3, c.image_starts-starts.ensures, c.loop-c-test.true)
 
-pub overflow_add-c : goal.overflow_add-c
-overflow_add-c c = let f = c.requires.0 in omega (arith, c.loop-c-test.true, f.right.solvable.data_max, f.right.solvable.parity_max)
-
-pub loop-c-smaller : goal.loop-c-smaller
-loop-c-smaller c = omega (arith, c.loop-c-test.true)
-
 pub loop-c-preserved : goal.loop-c-preserved
 loop-c-preserved c = let p = c.requires in
     let l = c.loop-c in (

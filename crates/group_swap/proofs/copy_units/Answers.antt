@@ -28,12 +28,6 @@ copy_unit-requires c = λ t.
     let p = c.requires.1 c.loop-c.c c.loop-c-test.true t in
     (p.0, omega (arith, p.1, c.loop-c.invariant.1))
 
-pub overflow_add-c : goal.overflow_add-c
-overflow_add-c c = omega (arith, c.loop-c-test.true, c.requires.0)
-
-pub loop-c-smaller : goal.loop-c-smaller
-loop-c-smaller c = omega (arith, c.loop-c-test.true)
-
 pub loop-c-preserved : goal.loop-c-preserved
 loop-c-preserved c = let l = c.loop-c in
     let e = copied_turn _ _ _ _ _ _ l.c l.out _ l.invariant.2 c.copy_unit.ensures in

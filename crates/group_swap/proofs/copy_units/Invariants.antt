@@ -6,6 +6,3 @@ use Rattle.group_swap.proofs.copy_units.Given as goal
 
 abbrev pub invariant-loop-c : goal.invariant-loop-c
 invariant-loop-c l = (l.c ≤ l.m) × (length l.out ≡ length l.initial.out) × (l.out ≡ units_copied l.on l.from l.to l.len l.src l.c l.initial.out)
-
-abbrev pub decreases-loop-c : goal.decreases-loop-c
-decreases-loop-c l = l.m - l.c

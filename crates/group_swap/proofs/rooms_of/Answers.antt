@@ -37,12 +37,6 @@ bounds-at-c c = omega (arith, c.loop-c-test.true, c.requires)
 pub next_room-room-requires : goal.next_room-room-requires
 next_room-room-requires c = room_low _ _ _ _ c.loop-c.invariant.5 (omega (arith, c.loop-c-test.true, c.requires))
 
-pub overflow_add-c : goal.overflow_add-c
-overflow_add-c c = omega (arith, c.loop-c-test.true, c.requires)
-
-pub loop-c-smaller : goal.loop-c-smaller
-loop-c-smaller c = omega (arith, c.loop-c-test.true)
-
 pub loop-c-preserved : goal.loop-c-preserved
 loop-c-preserved c = let l = c.loop-c in
     let few : l.c < 19 = omega (arith, c.loop-c-test.true, c.requires) in (

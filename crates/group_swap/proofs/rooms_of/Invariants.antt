@@ -7,6 +7,3 @@ use Rattle.group_swap.proofs.rooms_of.Given as goal
 
 abbrev pub invariant-loop-c : goal.invariant-loop-c
 invariant-loop-c l = (l.c ≤ l.m) × (length l.moves ≡ 19) × (length l.at ≡ 19) × ((k : ℕ) → k < l.c → get_or l.moves k false ≡ start_moves l.from l.to k) × ((k : ℕ) → k < l.c → get_or l.at k 0 ≡ room_of l.from l.to k) × (l.room ≡ room_of l.from l.to l.c)
-
-abbrev pub decreases-loop-c : goal.decreases-loop-c
-decreases-loop-c l = l.m - l.c

@@ -18,12 +18,6 @@ overflow_add-s c = omega (arith, prod_le 4096 16 c.requires.0.u-max (let h : c.l
 pub read_unit-requires : goal.read_unit-requires
 read_unit-requires c = (c.requires.0, c.loop-v-test.true, omega (arith, prod_le 4096 16 c.requires.0.u-max (let h : c.loop-v.v ≤ 16 = omega (arith, c.requires.0.right.solvable.data_max) in h), c.requires.1), omega (arith, c.requires.2, c.loop-v.invariant.1))
 
-pub overflow_add-v : goal.overflow_add-v
-overflow_add-v c = omega (arith, c.requires.0.right.solvable.data_max)
-
-pub loop-v-smaller : goal.loop-v-smaller
-loop-v-smaller c = omega arith
-
 pub loop-v-preserved : goal.loop-v-preserved
 loop-v-preserved c = (omega arith, c.read_unit.auto.out ∙ c.loop-v.invariant.1, read_step _ _ _ _ _ _ _ _ c.loop-v.invariant.1 c.loop-v.invariant.2 c.read_unit.ensures)
 

@@ -6,6 +6,3 @@ use Rattle.groups.proofs.read_group.Given as goal
 
 abbrev pub invariant-loop-v : goal.invariant-loop-v
 invariant-loop-v l = (l.v ≤ l.p.n) × (length l.out ≡ length l.initial.out) × ((x : ℕ) → x < length l.initial.out → get_or l.out x 0 ≡ read_to l.p l.image l.s l.a l.initial.out l.v x)
-
-abbrev pub decreases-loop-v : goal.decreases-loop-v
-decreases-loop-v l = l.n - l.v

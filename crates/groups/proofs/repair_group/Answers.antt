@@ -17,12 +17,6 @@ loop-c-init c = (omega arith, refl, refl)
 pub mend_unit-requires : goal.mend_unit-requires
 mend_unit-requires c = (fits_at c.requires.0 c.loop-c.invariant.1, mend_at c.requires.1 c.loop-c.invariant.1, omega arith)
 
-pub overflow_add-c : goal.overflow_add-c
-overflow_add-c c = omega (arith, c.requires.0.right.solvable.data_max, c.requires.0.right.solvable.parity_max)
-
-pub loop-c-smaller : goal.loop-c-smaller
-loop-c-smaller c = omega arith
-
 pub loop-c-preserved : goal.loop-c-preserved
 loop-c-preserved c = let i = c.loop-c.invariant in
     (omega arith, c.mend_unit.auto.image ∙ i.1, unit_turn _ _ _ c.requires.0 c.requires.1 _ _ _ (omega arith) i.2 c.mend_unit.ensures)

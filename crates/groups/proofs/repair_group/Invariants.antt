@@ -6,6 +6,3 @@ use Rattle.groups.proofs.repair_group.Given as goal
 
 abbrev pub invariant-loop-c : goal.invariant-loop-c
 invariant-loop-c l = (l.c ≤ l.p.n + l.p.k) × (length l.image ≡ length l.initial.image) × (l.image ≡ mended_units l.p l.homes l.initial.image l.c)
-
-abbrev pub decreases-loop-c : goal.decreases-loop-c
-decreases-loop-c l = l.m - l.c

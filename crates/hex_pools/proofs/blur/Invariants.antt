@@ -5,6 +5,3 @@ use Rattle.hex_pools.proofs.blur.Given as goal
 
 abbrev pub invariant-loop-i : goal.invariant-loop-i
 invariant-loop-i l = (l.i ≤ length l.initial.line) × (length l.line ≡ length l.initial.line)
-
-abbrev pub decreases-loop-i : goal.decreases-loop-i
-decreases-loop-i l = length l.initial.line - l.i

@@ -5,6 +5,3 @@ use Rattle.hex_pools.proofs.drawn_pools.Given as goal
 
 abbrev pub invariant-loop-i : goal.invariant-loop-i
 invariant-loop-i g l = (l.i ≤ 24) × (length l.space ≡ length l.initial.space)
-
-abbrev pub decreases-loop-i : goal.decreases-loop-i
-decreases-loop-i g l = 24 - l.i

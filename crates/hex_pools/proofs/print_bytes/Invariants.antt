@@ -3,6 +3,3 @@ use Rattle.hex_pools.proofs.print_bytes.Given as goal
 
 abbrev pub invariant-loop-i : goal.invariant-loop-i
 invariant-loop-i g l = l.i ≤ 20
-
-abbrev pub decreases-loop-i : goal.decreases-loop-i
-decreases-loop-i g l = 20 - l.i

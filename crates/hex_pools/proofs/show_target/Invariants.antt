@@ -5,6 +5,3 @@ use Rattle.hex_pools.proofs.show_target.Given as goal
 
 abbrev pub invariant-loop-frame : goal.invariant-loop-frame
 invariant-loop-frame g l = (l.frame ≤ l.frames) × (length l.line ≡ length l.initial.line)
-
-abbrev pub decreases-loop-frame : goal.decreases-loop-frame
-decreases-loop-frame g l = l.frames - l.frame

@@ -5,6 +5,3 @@ use Rattle.hex_pools.proofs.show_ten.Given as goal
 
 abbrev pub invariant-loop-i : goal.invariant-loop-i
 invariant-loop-i g l = (l.i ≤ 10) × (length l.line ≡ length l.initial.line)
-
-abbrev pub decreases-loop-i : goal.decreases-loop-i
-decreases-loop-i g l = 10 - l.i

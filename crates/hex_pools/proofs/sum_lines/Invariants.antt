@@ -5,6 +5,3 @@ use Rattle.hex_pools.proofs.sum_lines.Given as goal
 
 abbrev pub invariant-loop-target : goal.invariant-loop-target
 invariant-loop-target g l = (l.target ≤ l.targets) × (length l.line ≡ length l.initial.line)
-
-abbrev pub decreases-loop-target : goal.decreases-loop-target
-decreases-loop-target g l = l.targets - l.target

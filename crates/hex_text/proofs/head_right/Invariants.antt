@@ -6,6 +6,3 @@ use Rattle.hex_text.proofs.head_right.Given as goal
 
 abbrev pub invariant-loop-j : goal.invariant-loop-j
 invariant-loop-j l = (l.j ≤ 10) × ((k : ℕ) → k < l.j → get_or l.text (l.at + k) 0 ≡ head_of l.target l.frame k)
-
-abbrev pub decreases-loop-j : goal.decreases-loop-j
-decreases-loop-j l = 10 - l.j

@@ -6,6 +6,3 @@ use Rattle.hex_text.proofs.is_digits.Given as goal
 
 abbrev pub invariant-loop-i : goal.invariant-loop-i
 invariant-loop-i l = (l.i ≤ l.n) × (ltb l.largest 16 ≡ digits_at l.text l.from l.i)
-
-abbrev pub decreases-loop-i : goal.decreases-loop-i
-decreases-loop-i l = l.n - l.i

@@ -7,6 +7,3 @@ use Rattle.hex_text.proofs.pairs_at.Given as goal
 
 abbrev pub invariant-loop-o : goal.invariant-loop-o
 invariant-loop-o l = (l.o ≤ 32) × (length l.pairs ≡ 32) × ((k : ℕ) → k < l.o → at l.pairs k ≡ pair_at l.text (l.from + 2 * k))
-
-abbrev pub decreases-loop-o : goal.decreases-loop-o
-decreases-loop-o l = 32 - l.o

@@ -5,6 +5,3 @@ use Rattle.hex_text.proofs.tell_block.Given as goal
 
 abbrev pub invariant-loop-o : goal.invariant-loop-o
 invariant-loop-o l = (l.o ≤ 32) × Span (bytes_from l.text l.from l.begins) l.begins (l.begins + l.o) l.initial.image l.image
-
-abbrev pub decreases-loop-o : goal.decreases-loop-o
-decreases-loop-o l = 32 - l.o

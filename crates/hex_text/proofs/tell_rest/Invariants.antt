@@ -5,6 +5,3 @@ use Rattle.hex_text.proofs.tell_rest.Given as goal
 
 abbrev pub invariant-loop-o : goal.invariant-loop-o
 invariant-loop-o l = (l.o ≤ l.u) × Span (bytes_from l.text l.from l.begins) l.begins (l.begins + l.o) l.initial.image l.image
-
-abbrev pub decreases-loop-o : goal.decreases-loop-o
-decreases-loop-o l = l.u - l.o

@@ -5,6 +5,3 @@ use Rattle.hex_text.proofs.write_head.Given as goal
 
 abbrev pub invariant-loop-i : goal.invariant-loop-i
 invariant-loop-i l = (l.i ≤ 10) × Span (head_from l.at l.target l.frame) l.at (l.at + l.i) l.initial.text l.text
-
-abbrev pub decreases-loop-i : goal.decreases-loop-i
-decreases-loop-i l = 10 - l.i

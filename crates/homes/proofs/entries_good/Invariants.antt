@@ -6,6 +6,3 @@ use Rattle.homes.proofs.entries_good.Given as goal
 
 abbrev pub invariant-loop-i : goal.invariant-loop-i
 invariant-loop-i l = (l.i ≤ l.k) × ((n : ℕ) → n < l.i → entry_good l.y (record { failed = l.failed; k = l.k; q = 0; waiting = 0 }) n ≡ true)
-
-abbrev pub decreases-loop-i : goal.decreases-loop-i
-decreases-loop-i l = l.k - l.i

@@ -7,6 +7,3 @@ use Rattle.homes.proofs.free_spare.Given as goal
 
 abbrev pub invariant-loop-spare : goal.invariant-loop-spare
 invariant-loop-spare l = (l.spare ≤ l.spares) × ((k : ℕ) → k < l.spare → free (at l.targets) l.m (at l.failed) l.j (at l.homes) k ≡ false)
-
-abbrev pub decreases-loop-spare : goal.decreases-loop-spare
-decreases-loop-spare l = l.spares - l.spare

@@ -4,6 +4,3 @@ use Rattle.homes.proofs.homes_of.Given as goal
 
 abbrev pub invariant-loop-i : goal.invariant-loop-i
 invariant-loop-i l = (l.i ≤ l.j) × HomesAre l.targets l.m l.spares l.failed l.i l.homes
-
-abbrev pub decreases-loop-i : goal.decreases-loop-i
-decreases-loop-i l = l.j - l.i

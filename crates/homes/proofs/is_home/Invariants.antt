@@ -5,6 +5,3 @@ use Rattle.homes.proofs.is_home.Given as goal
 
 abbrev pub invariant-loop-c : goal.invariant-loop-c
 invariant-loop-c l = (l.c ≤ l.m) × ((k : ℕ) → k < l.c → at l.homes k ≡ l.u → ⊥)
-
-abbrev pub decreases-loop-c : goal.decreases-loop-c
-decreases-loop-c l = l.m - l.c

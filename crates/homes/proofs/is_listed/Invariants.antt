@@ -5,6 +5,3 @@ use Rattle.homes.proofs.is_listed.Given as goal
 
 abbrev pub invariant-loop-i : goal.invariant-loop-i
 invariant-loop-i l = (l.i ≤ l.j) × ((k : ℕ) → k < l.i → at l.failed k ≡ l.t → ⊥)
-
-abbrev pub decreases-loop-i : goal.decreases-loop-i
-decreases-loop-i l = l.j - l.i

@@ -8,6 +8,3 @@ use Rattle.homes.proofs.missing_of.Given as goal
 
 abbrev pub invariant-loop-c : goal.invariant-loop-c
 invariant-loop-c l = (l.c ≤ l.m) × (length l.missing ≡ 19) × ((i : ℕ) → i < l.c → get_or l.missing i false ≡ listed (at l.failed) l.k (at l.targets (at l.homes i)))
-
-abbrev pub decreases-loop-c : goal.decreases-loop-c
-decreases-loop-c l = l.m - l.c

@@ -8,6 +8,3 @@ use Rattle.homes.proofs.moved.Given as goal
 
 abbrev pub invariant-loop-c : goal.invariant-loop-c
 invariant-loop-c l = (l.c ≤ l.m) × (length l.after ≡ 19) × ((k : ℕ) → k < l.c → at l.after k ≡ pick (eqb (at l.targets (at l.homes k)) l.gone) l.to (at l.homes k))
-
-abbrev pub decreases-loop-c : goal.decreases-loop-c
-decreases-loop-c l = l.m - l.c

@@ -6,6 +6,3 @@ use Rattle.homes.proofs.own_places.Given as goal
 
 abbrev pub invariant-loop-c : goal.invariant-loop-c
 invariant-loop-c l = (l.c ≤ 19) × (length l.homes ≡ 19) × ((k : ℕ) → k < l.c → at l.homes k ≡ k)
-
-abbrev pub decreases-loop-c : goal.decreases-loop-c
-decreases-loop-c l = 19 - l.c

@@ -7,6 +7,3 @@ use Rattle.homes.proofs.place_of.Given as goal
 
 abbrev pub invariant-loop-i : goal.invariant-loop-i
 invariant-loop-i l = (l.i ≤ l.k) × ((j : ℕ) → j < l.i → eqb (at l.failed j) l.t ≡ false)
-
-abbrev pub decreases-loop-i : goal.decreases-loop-i
-decreases-loop-i l = l.k - l.i

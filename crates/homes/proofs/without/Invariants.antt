@@ -7,6 +7,3 @@ use Rattle.homes.proofs.without.Given as goal
 
 abbrev pub invariant-loop-i : goal.invariant-loop-i
 invariant-loop-i l = (l.i ≤ 3) × (length l.failed ≡ 3) × ((j : ℕ) → j < l.i → at l.failed j ≡ entry_without l.r l.t j)
-
-abbrev pub decreases-loop-i : goal.decreases-loop-i
-decreases-loop-i l = 3 - l.i

@@ -27,12 +27,6 @@ overflow_add-out-in-loop-i c = omega arith
 pub bounds-out-o-in-loop-i : goal.bounds-out-o-in-loop-i
 bounds-out-o-in-loop-i c = omega arith
 
-pub overflow_add-i : goal.overflow_add-i
-overflow_add-i c = omega arith
-
-pub loop-i-smaller : goal.loop-i-smaller
-loop-i-smaller c = omega arith
-
 pub loop-i-preserved : goal.loop-i-preserved
 unfolding ◌⊕◌
 loop-i-preserved c = let a = c.args in

@@ -8,6 +8,3 @@ use Rattle.kernel.proofs.add_plane.Given as goal
 
 abbrev pub invariant-loop-q : goal.invariant-loop-q
 invariant-loop-q l = (l.q ≤ l.count) × (length l.acc ≡ 192) × Span (λ i. get_or l.initial.acc i 0 ⊕ picked l.src l.list l.base l.q (l.o + i)) 0 l.m l.initial.acc l.acc
-
-abbrev pub decreases-loop-q : goal.decreases-loop-q
-decreases-loop-q l = l.count - l.q

@@ -31,12 +31,6 @@ digit-c-requires c = omega arith
 pub overflow_add-c : goal.overflow_add-c
 overflow_add-c c = omega arith
 
-pub overflow_add-j : goal.overflow_add-j
-overflow_add-j c = omega arith
-
-pub loop-j-smaller : goal.loop-j-smaller
-loop-j-smaller c = omega arith
-
 pub loop-j-preserved : goal.loop-j-preserved
 loop-j-preserved c = let a = c.args in
     let l = c.loop-j in

@@ -6,6 +6,3 @@ use Rattle.kernel.proofs.fill_lowest.Given as goal
 
 abbrev pub invariant-loop-j : goal.invariant-loop-j
 invariant-loop-j l = (l.j ≤ l.n) × (length l.list ≡ 128) × Plane l.starts l.coefs l.j 0 l.list l.c
-
-abbrev pub decreases-loop-j : goal.decreases-loop-j
-decreases-loop-j l = l.n - l.j

@@ -23,12 +23,6 @@ pub spread-requires : goal.spread-requires
 spread-requires c = let l = c.loop-j in
     (l.invariant.1, l.invariant.2, omega (arith, c.loop-j-test.true, c.requires.1), l.invariant.3)
 
-pub overflow_add-j : goal.overflow_add-j
-overflow_add-j c = omega arith
-
-pub loop-j-smaller : goal.loop-j-smaller
-loop-j-smaller c = omega arith
-
 pub loop-j-preserved : goal.loop-j-preserved
 loop-j-preserved c = (omega arith, c.spread.ensures.0, c.spread.ensures.1, c.spread.ensures.2)
 

@@ -6,6 +6,3 @@ use Rattle.kernel.proofs.plan.Given as goal
 
 abbrev pub invariant-loop-j : goal.invariant-loop-j
 invariant-loop-j l = (l.j ≤ l.n) × (length l.list ≡ 128) × (length l.counts ≡ 8) × Planes l.starts l.coefs l.j l.list l.counts 8
-
-abbrev pub decreases-loop-j : goal.decreases-loop-j
-decreases-loop-j l = l.n - l.j

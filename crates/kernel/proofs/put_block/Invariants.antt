@@ -5,6 +5,3 @@ use Rattle.kernel.proofs.put_block.Given as goal
 
 abbrev pub invariant-loop-i : goal.invariant-loop-i
 invariant-loop-i l = (l.i ≤ l.m) × Span (λ y. get_or l.b (y - l.o) 0) l.o (l.o + l.i) l.initial.out l.out
-
-abbrev pub decreases-loop-i : goal.decreases-loop-i
-decreases-loop-i l = l.m - l.i

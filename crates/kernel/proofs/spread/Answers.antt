@@ -54,12 +54,6 @@ offset_bounds-counts-k-in-loop-k c = omega arith
 pub bounds-counts-k-in-loop-k : goal.bounds-counts-k-in-loop-k
 bounds-counts-k-in-loop-k c = omega arith
 
-pub overflow_add-k : goal.overflow_add-k
-overflow_add-k c = omega arith
-
-pub loop-k-smaller : goal.loop-k-smaller
-loop-k-smaller c = omega arith
-
 pub loop-k-preserved : goal.loop-k-preserved
 loop-k-preserved c = let a = c.args in
     let l = c.loop-k in (

@@ -6,6 +6,3 @@ use Rattle.kernel.proofs.spread.Given as goal
 
 abbrev pub invariant-loop-k : goal.invariant-loop-k
 invariant-loop-k l = (l.k ≤ 8) × (length l.list ≡ 128) × (length l.counts ≡ 8) × Spread l.starts l.coefs l.j l.list l.counts l.k
-
-abbrev pub decreases-loop-k : goal.decreases-loop-k
-decreases-loop-k l = 8 - l.k

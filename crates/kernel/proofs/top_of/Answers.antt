@@ -13,12 +13,6 @@ bounds-coefs-j c = omega arith
 pub larger-most-requires : goal.larger-most-requires
 larger-most-requires c = tt
 
-pub overflow_add-j : goal.overflow_add-j
-overflow_add-j c = omega arith
-
-pub loop-j-smaller : goal.loop-j-smaller
-loop-j-smaller c = omega arith
-
 pub loop-j-preserved : goal.loop-j-preserved
 loop-j-preserved c = (omega arith, most_step c.args.coefs.now c.loop-j.j _ _ c.larger-most.ensures.0 c.larger-most.ensures.1 c.loop-j.invariant.1)
 

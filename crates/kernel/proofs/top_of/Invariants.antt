@@ -4,6 +4,3 @@ use Rattle.kernel.proofs.top_of.Given as goal
 
 abbrev pub invariant-loop-j : goal.invariant-loop-j
 invariant-loop-j l = (l.j ≤ l.n) × ((x : ℕ) → x < l.j → get_or l.coefs x 0 ≤ l.most)
-
-abbrev pub decreases-loop-j : goal.decreases-loop-j
-decreases-loop-j l = l.n - l.j

@@ -7,6 +7,3 @@ use Rattle.kernel.proofs.xor_run.Given as goal
 
 abbrev pub invariant-loop-i : goal.invariant-loop-i
 invariant-loop-i l = (l.i ≤ l.m) × (length l.acc ≡ 192) × Span (λ x. get_or l.initial.acc x 0 ⊕ get_or l.src (l.s + x) 0) 0 l.i l.initial.acc l.acc
-
-abbrev pub decreases-loop-i : goal.decreases-loop-i
-decreases-loop-i l = l.m - l.i

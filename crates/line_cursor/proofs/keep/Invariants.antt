@@ -6,6 +6,3 @@ use Rattle.line_cursor.proofs.keep.Given as goal
 
 abbrev pub invariant-loop-i : goal.invariant-loop-i
 invariant-loop-i l = (l.i ≤ l.count) × (length l.line ≡ 8301) × (l.line ≡ paste l.initial.line l.held (drop l.from l.piece) l.i)
-
-abbrev pub decreases-loop-i : goal.decreases-loop-i
-decreases-loop-i l = l.count - l.i

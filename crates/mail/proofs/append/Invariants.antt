@@ -5,6 +5,3 @@ use Rattle.mail.proofs.append.Given as goal
 
 abbrev pub invariant-loop-i : goal.invariant-loop-i
 invariant-loop-i l = (l.i ≤ length l.piece) × (length l.copy ≡ length l.initial.copy)
-
-abbrev pub decreases-loop-i : goal.decreases-loop-i
-decreases-loop-i l = length l.piece - l.i

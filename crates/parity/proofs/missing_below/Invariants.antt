@@ -5,6 +5,3 @@ use Rattle.parity.proofs.missing_below.Given as goal
 
 abbrev pub invariant-loop-j : goal.invariant-loop-j
 invariant-loop-j l = (l.j ≤ l.n) × Holds (those (flag l.miss) l.j) l.found l.d
-
-abbrev pub decreases-loop-j : goal.decreases-loop-j
-decreases-loop-j l = l.n - l.j

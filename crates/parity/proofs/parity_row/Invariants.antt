@@ -7,6 +7,3 @@ use Rattle.parity.proofs.parity_row.Given as goal
 
 abbrev pub invariant-loop-j : goal.invariant-loop-j
 invariant-loop-j l = (l.j ≤ l.n) × (length l.row ≡ 16) × ((x : ℕ) → x < l.j → get_or l.row x 0 ≡ parity_from l.own l.across l.lines (flag l.miss x) x)
-
-abbrev pub decreases-loop-j : goal.decreases-loop-j
-decreases-loop-j l = l.n - l.j

@@ -5,6 +5,3 @@ use Rattle.parity.proofs.present_parity.Given as goal
 
 abbrev pub invariant-loop-i : goal.invariant-loop-i
 invariant-loop-i l = (l.i ≤ l.k) × Holds (those (present l.miss l.n) l.i) l.found l.c
-
-abbrev pub decreases-loop-i : goal.decreases-loop-i
-decreases-loop-i l = l.k - l.i

@@ -42,9 +42,6 @@ bounds-miss-j-in-loop-j c = omega (arith, c.requires.data_max)
 pub overflow_add-c : goal.overflow_add-c
 overflow_add-c c = let l = c.loop-j in let m = flag c.args.miss in omega (arith, c.requires.data_max, c.one_if-c.ensures, l.invariant.2, count-le m l.j, bit_le (m l.j))
 
-pub overflow_add-j : goal.overflow_add-j
-overflow_add-j c = omega (arith, c.requires.data_max)
-
 pub loop-j-preserved : goal.loop-j-preserved
 loop-j-preserved c = let a = c.args in
     let l = c.loop-j in

@@ -8,6 +8,3 @@ use Rattle.parity.proofs.slots.Given as goal
 
 abbrev pub invariant-loop-j : goal.invariant-loop-j
 invariant-loop-j l = (l.j ≤ l.n) × (length l.units ≡ 16) × (l.c ≡ count (flag l.miss) l.j) × ((x : ℕ) → x < l.j → get_or l.units x 0 ≡ slot l.n l.k (flag l.miss) x)
-
-abbrev pub decreases-loop-j : goal.decreases-loop-j
-decreases-loop-j l = l.n - l.j

@@ -5,6 +5,3 @@ use Rattle.plan.proofs.same_flags.Given as goal
 
 abbrev pub invariant-loop-i : goal.invariant-loop-i
 invariant-loop-i l = (l.i ≤ l.m) × ((x : ℕ) → x < l.i → flag l.a x ≡ flag l.b x)
-
-abbrev pub decreases-loop-i : goal.decreases-loop-i
-decreases-loop-i l = l.m - l.i

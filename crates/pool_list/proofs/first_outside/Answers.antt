@@ -20,9 +20,6 @@ returns-then-not-is_inside c = let i = c.loop-i.i in
     let f = failing_at _ _ i c.loop-i-test.true c.loop-i.invariant.1 (sym c.is_inside.ensures ∙ c.if-not-is_inside.true) in
     omega (arith, f)
 
-pub overflow_add-i : goal.overflow_add-i
-overflow_add-i c = omega (arith, c.requires, c.loop-i-test.true)
-
 pub loop-i-preserved : goal.loop-i-preserved
 loop-i-preserved c = let s = c.args in
     let i = c.loop-i.i in (

@@ -8,6 +8,3 @@ use Rattle.pool_list.proofs.first_outside.Given as goal
 
 abbrev pub invariant-loop-i : goal.invariant-loop-i
 invariant-loop-i l = (l.i ≤ length l.ranges) × ((k : ℕ) → k < l.i → inside_of l.capacity (range_offset l.ranges k) (range_size l.ranges k) ≡ true)
-
-abbrev pub decreases-loop-i : goal.decreases-loop-i
-decreases-loop-i l = length l.ranges - l.i

@@ -15,9 +15,6 @@ overflow_add-total c = let i = c.loop-i.i in
     let few = sum-le (range_size c.args.ranges.now) 274877906944 i (λ k h. c.requires.1 k (omega (arith, h, c.loop-i-test.true))) in
     omega (arith, few, c.requires.1 i c.loop-i-test.true, c.loop-i.invariant.0, c.requires.0, c.loop-i-test.true)
 
-pub overflow_add-i : goal.overflow_add-i
-overflow_add-i c = omega (arith, c.requires.0, c.loop-i-test.true)
-
 pub loop-i-preserved : goal.loop-i-preserved
 loop-i-preserved c = let s = c.args in
     let i = c.loop-i.i in

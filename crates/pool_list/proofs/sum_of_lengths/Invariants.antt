@@ -7,6 +7,3 @@ use Rattle.pool_list.proofs.sum_of_lengths.Given as goal
 
 abbrev pub invariant-loop-i : goal.invariant-loop-i
 invariant-loop-i l = (l.total ≡ sum (range_size l.ranges) l.i) × (l.i ≤ length l.ranges)
-
-abbrev pub decreases-loop-i : goal.decreases-loop-i
-decreases-loop-i l = length l.ranges - l.i

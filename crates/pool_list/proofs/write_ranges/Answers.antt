@@ -25,9 +25,6 @@ write_range-requires c =
       range_fits _ _ c.args.image.now _ c.args.bytes.now c.requires i c.loop-i-test.true _ w.1,
     )
 
-pub overflow_add-i : goal.overflow_add-i
-overflow_add-i c = omega (arith, c.requires.few, c.loop-i-test.true)
-
 pub loop-i-preserved : goal.loop-i-preserved
 loop-i-preserved c =
     let w = c.loop-i.invariant in let i = c.loop-i.i in let more = c.loop-i-test.true in (

@@ -7,6 +7,3 @@ use Rattle.pool_list.proofs.write_ranges.Given as goal
 
 abbrev pub invariant-loop-i : goal.invariant-loop-i
 invariant-loop-i l = (l.image ≡ after_ranges l.y l.r l.initial.image l.ranges l.bytes l.i) × (l.at ≡ sum (range_size l.ranges) l.i) × (l.i ≤ length l.ranges)
-
-abbrev pub decreases-loop-i : goal.decreases-loop-i
-decreases-loop-i l = length l.ranges - l.i

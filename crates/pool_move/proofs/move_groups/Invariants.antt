@@ -7,6 +7,3 @@ use Rattle.pool_move.proofs.move_groups.Given as goal
 
 abbrev pub invariant-loop-g : goal.invariant-loop-g
 invariant-loop-g l = (l.g ≤ all_groups l.y) × Surveying l.y l.here × Surveying l.z l.there × MovedBelow l.z (shown_file l.y l.r l.old) l.initial.new l.g l.new
-
-abbrev pub decreases-loop-g : goal.decreases-loop-g
-decreases-loop-g l = l.groups - l.g

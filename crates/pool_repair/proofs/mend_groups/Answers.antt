@@ -54,12 +54,6 @@ overflow_add-count c = let sound = c.requires in
       turn c.args.y _ _ c.loop-g-test.true c.numbers_of-numbers.ensures.groups_is c.numbers_of-numbers.ensures.groups-few,
     )
 
-pub overflow_add-g : goal.overflow_add-g
-overflow_add-g c = omega (arith, turn c.args.y _ _ c.loop-g-test.true c.numbers_of-numbers.ensures.groups_is c.numbers_of-numbers.ensures.groups-few)
-
-pub loop-g-smaller : goal.loop-g-smaller
-loop-g-smaller c = omega (arith, c.loop-g-test.true)
-
 pub loop-g-preserved : goal.loop-g-preserved
 loop-g-preserved c = let sound = c.requires in (
   omega (arith, turn c.args.y _ _ c.loop-g-test.true c.numbers_of-numbers.ensures.groups_is c.numbers_of-numbers.ensures.groups-few),

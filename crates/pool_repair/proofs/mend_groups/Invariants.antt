@@ -6,6 +6,3 @@ use Rattle.pool_repair.proofs.mend_groups.Given as goal
 
 abbrev pub invariant-loop-g : goal.invariant-loop-g
 invariant-loop-g l = (l.g ≤ all_groups l.y) × Surveying l.y l.survey × MendedBelow l.y l.r l.initial.image l.g l.count l.image
-
-abbrev pub decreases-loop-g : goal.decreases-loop-g
-decreases-loop-g l = l.groups - l.g

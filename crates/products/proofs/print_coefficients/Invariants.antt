@@ -3,6 +3,3 @@ use Rattle.products.proofs.print_coefficients.Given as goal
 
 abbrev pub invariant-loop-j : goal.invariant-loop-j
 invariant-loop-j g l = l.j ≤ 16
-
-abbrev pub decreases-loop-j : goal.decreases-loop-j
-decreases-loop-j g l = 16 - l.j

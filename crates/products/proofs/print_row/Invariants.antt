@@ -5,6 +5,3 @@ use Rattle.products.proofs.print_row.Given as goal
 
 abbrev pub invariant-loop-i : goal.invariant-loop-i
 invariant-loop-i g l = (l.i ≤ 256) × (length l.line ≡ 512)
-
-abbrev pub decreases-loop-i : goal.decreases-loop-i
-decreases-loop-i g l = 256 - l.i

@@ -5,6 +5,3 @@ use Rattle.proposal_draw.proofs.draw_group.Given as goal
 
 abbrev pub invariant-loop-c : goal.invariant-loop-c
 invariant-loop-c l = (R : Record) → GroupAt l.y R l.g l.missing l.at l.initial.out → GroupTo l.y R l.g l.at l.initial.out l.c l.next l.out
-
-abbrev pub decreases-loop-c : goal.decreases-loop-c
-decreases-loop-c l = l.m - l.c

@@ -6,6 +6,3 @@ use Rattle.proposal_run.proofs.left_out.Given as goal
 
 abbrev pub invariant-loop-j : goal.invariant-loop-j
 invariant-loop-j l = (l.j ≤ l.n) × (length l.missing ≡ 19) × LeftOut l.proposal l.from l.j l.missing
-
-abbrev pub decreases-loop-j : goal.decreases-loop-j
-decreases-loop-j l = l.n - l.j

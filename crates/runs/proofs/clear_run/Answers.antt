@@ -16,12 +16,6 @@ overflow_add-out c = omega arith
 pub bounds-out-to : goal.bounds-out-to
 bounds-out-to c = let n = c.loop-i.invariant.1.len in omega arith
 
-pub overflow_add-i : goal.overflow_add-i
-overflow_add-i c = omega arith
-
-pub loop-i-smaller : goal.loop-i-smaller
-loop-i-smaller c = omega arith
-
 pub loop-i-preserved : goal.loop-i-preserved
 unfolding zero_byte
 loop-i-preserved c = let a = c.args in

@@ -30,12 +30,6 @@ offset_bounds-r-j c = omega (arith, c.requires.0.right.solvable.data_max)
 pub bounds-r-j : goal.bounds-r-j
 bounds-r-j c = omega (arith, c.requires.0.right.solvable.data_max)
 
-pub overflow_add-j : goal.overflow_add-j
-overflow_add-j c = omega (arith, c.requires.0.right.solvable.data_max)
-
-pub loop-j-smaller : goal.loop-j-smaller
-loop-j-smaller c = omega arith
-
 pub loop-j-preserved : goal.loop-j-preserved
 loop-j-preserved c = fill16 _ c.loop-j.r _ _ _ c.loop-j.invariant.1 c.requires.0.right.solvable.data_max c.loop-j-test.true refl c.loop-j.invariant.2
 

@@ -6,6 +6,3 @@ use Rattle.runs.proofs.taken.Given as goal
 
 abbrev pub invariant-loop-i : goal.invariant-loop-i
 invariant-loop-i l = (l.i ≤ l.m) × (length l.b ≡ 128) × ((k : ℕ) → k < l.i → get_or l.b k 0 ≡ run_of l.src l.from k)
-
-abbrev pub decreases-loop-i : goal.decreases-loop-i
-decreases-loop-i l = l.m - l.i

@@ -4,6 +4,3 @@ use Rattle.session.proofs.say_ranges.Given as goal
 
 abbrev pub invariant-loop-i : goal.invariant-loop-i
 invariant-loop-i g l = l.i ≤ length l.ranges
-
-abbrev pub decreases-loop-i : goal.decreases-loop-i
-decreases-loop-i g l = length l.ranges - l.i

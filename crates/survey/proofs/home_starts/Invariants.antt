@@ -5,6 +5,3 @@ use Rattle.survey.proofs.home_starts.Given as goal
 
 abbrev pub invariant-loop-c : goal.invariant-loop-c
 invariant-loop-c l = (l.c ≤ l.m) × (length l.at ≡ 19) × ((i : ℕ) → i < l.c → get_or l.at i 0 ≡ get_or l.starts (get_or l.homes i 0) 0)
-
-abbrev pub decreases-loop-c : goal.decreases-loop-c
-decreases-loop-c l = l.m - l.c

@@ -10,6 +10,3 @@ use Rattle.survey.proofs.own_missing.Given as goal
 
 abbrev pub invariant-loop-c : goal.invariant-loop-c
 invariant-loop-c l = (l.c ≤ l.m) × (length l.missing ≡ 19) × ((i : ℕ) → i < l.c → get_or l.missing i false ≡ listed (at l.failed) l.k (target_at l.y l.g i)) × (l.cell ≡ cell_of l.y l.g l.c)
-
-abbrev pub decreases-loop-c : goal.decreases-loop-c
-decreases-loop-c l = l.m - l.c

@@ -65,12 +65,6 @@ bounds-starts-u c = omega (arith, turn c)
 pub next_cell-cell-requires : goal.next_cell-cell-requires
 next_cell-cell-requires c = let i = inside c.before.before.before in (c.requires.valid, i.0, i.1)
 
-pub overflow_add-u : goal.overflow_add-u
-overflow_add-u c = omega (arith, turn c.before)
-
-pub loop-u-smaller : goal.loop-u-smaller
-loop-u-smaller c = omega arith
-
 pub loop-u-preserved : goal.loop-u-preserved
 loop-u-preserved c = let a = c.args in
     let l = c.loop-u in

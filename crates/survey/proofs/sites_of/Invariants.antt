@@ -11,6 +11,3 @@ abbrev pub invariant-loop-u : goal.invariant-loop-u
 invariant-loop-u l =
     (l.u ≤ l.w) × (length l.targets ≡ 22) × (length l.starts ≡ 22) × ((k : ℕ) → k < l.u → at l.targets k ≡ target_at l.y l.g k) ×
     ((k : ℕ) → k < l.u → get_or l.starts k 0 ≡ spot l.y l.g k 0) × (l.cell ≡ cell_of l.y l.g l.u)
-
-abbrev pub decreases-loop-u : goal.decreases-loop-u
-decreases-loop-u l = l.w - l.u

@@ -55,12 +55,6 @@ bounds-at-c c = omega (arith, c.loop-c-test.true, c.requires.3)
 pub next_cell-cell-requires : goal.next_cell-cell-requires
 next_cell-cell-requires c = let i = inside c.before.before in (c.requires.0.valid, i.0, i.1)
 
-pub overflow_add-c : goal.overflow_add-c
-overflow_add-c c = omega (arith, c.loop-c-test.true, c.requires.3)
-
-pub loop-c-smaller : goal.loop-c-smaller
-loop-c-smaller c = omega arith
-
 pub loop-c-preserved : goal.loop-c-preserved
 loop-c-preserved c = let a = c.args in
     let l = c.loop-c in

@@ -5,6 +5,3 @@ use Rattle.tally.proofs.in_tile.Given as goal
 
 abbrev pub invariant-loop-row : goal.invariant-loop-row
 invariant-loop-row l = (l.row ≤ l.rows) × (l.n ≤ l.row) × (l.n ≡ in_rows l.y l.r l.target l.tile l.row)
-
-abbrev pub decreases-loop-row : goal.decreases-loop-row
-decreases-loop-row l = l.rows - l.row

@@ -28,12 +28,6 @@ pub overflow_add-n : goal.overflow_add-n
 overflow_add-n c = let p = c.requires in
     omega (arith, c.loop-i.invariant, c.loop-i-test.true, few c.before.before.before.before.before, c.on_target-n.ensures.1, frames-few _ p.0 _ p.1)
 
-pub overflow_add-i : goal.overflow_add-i
-overflow_add-i c = omega (arith, c.loop-i-test.true, few c.before.before.before.before.before)
-
-pub loop-i-smaller : goal.loop-i-smaller
-loop-i-smaller c = omega (arith, c.loop-i-test.true)
-
 pub loop-i-preserved : goal.loop-i-preserved
 loop-i-preserved c = let p = c.requires in
     let i = c.loop-i.invariant in (

@@ -16,9 +16,6 @@ pub overflow_add-n : goal.overflow_add-n
 overflow_add-n c = let p = c.requires in
     omega (arith, c.loop-tile.invariant, c.loop-tile-test.true, c.in_tile-n.ensures.1, p.shape.l_few, p.valid.few_tiles)
 
-pub overflow_add-tile : goal.overflow_add-tile
-overflow_add-tile c = omega (arith, c.loop-tile-test.true, c.requires.valid.few_tiles)
-
 pub loop-tile-preserved : goal.loop-tile-preserved
 loop-tile-preserved c = let p = c.requires in
     let i = c.loop-tile.invariant in

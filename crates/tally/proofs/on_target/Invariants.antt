@@ -6,6 +6,3 @@ use Rattle.tally.proofs.on_target.Given as goal
 
 abbrev pub invariant-loop-tile : goal.invariant-loop-tile
 invariant-loop-tile l = (l.tile ≤ l.tiles) × (l.n ≤ 22 * l.tile) × (l.n ≡ sum (in_tile_of l.y l.r l.target) l.tile)
-
-abbrev pub decreases-loop-tile : goal.decreases-loop-tile
-decreases-loop-tile l = l.tiles - l.tile

@@ -4,6 +4,3 @@ use Rattle.tile.proofs.column_of.Given as goal
 
 abbrev pub invariant-loop-column : goal.invariant-loop-column
 invariant-loop-column l = (l.column ≤ 64) × ((k : ℕ) → k < l.column → at l.a k ≡ l.t → ⊥)
-
-abbrev pub decreases-loop-column : goal.decreases-loop-column
-decreases-loop-column l = 64 - l.column

@@ -4,6 +4,3 @@ use Rattle.tile.proofs.inverted.Given as goal
 
 abbrev pub invariant-loop-t : goal.invariant-loop-t
 invariant-loop-t l = (l.t ≤ 64) × (length l.b ≡ 64) × ((k : ℕ) → k < l.t → at l.b (at l.a k) ≡ k)
-
-abbrev pub decreases-loop-t : goal.decreases-loop-t
-decreases-loop-t l = 64 - l.t

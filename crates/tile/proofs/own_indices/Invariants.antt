@@ -4,6 +4,3 @@ use Rattle.tile.proofs.own_indices.Given as goal
 
 abbrev pub invariant-loop-t : goal.invariant-loop-t
 invariant-loop-t l = (l.t ≤ 64) × (length l.a ≡ 64) × ((k : ℕ) → k < l.t → at l.a k ≡ k)
-
-abbrev pub decreases-loop-t : goal.decreases-loop-t
-decreases-loop-t l = 64 - l.t

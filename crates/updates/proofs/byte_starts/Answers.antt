@@ -17,12 +17,6 @@ offset_bounds-r-j c = omega (arith, c.requires.0)
 pub bounds-r-j : goal.bounds-r-j
 bounds-r-j c = omega (arith, c.requires.0)
 
-pub overflow_add-j : goal.overflow_add-j
-overflow_add-j c = omega (arith, c.requires.0)
-
-pub loop-j-smaller : goal.loop-j-smaller
-loop-j-smaller c = omega arith
-
 pub loop-j-preserved : goal.loop-j-preserved
 loop-j-preserved c = fill16 _ c.loop-j.r _ _ _ c.loop-j.invariant.1 c.requires.0 c.loop-j-test.true c.byte_start.ensures c.loop-j.invariant.2
 

@@ -26,12 +26,6 @@ bounds-row-j-in-loop-j c = omega (arith, c.requires)
 pub bounds-missing-j : goal.bounds-missing-j
 bounds-missing-j c = omega (arith, c.requires)
 
-pub overflow_add-j : goal.overflow_add-j
-overflow_add-j c = omega (arith, c.requires)
-
-pub loop-j-smaller : goal.loop-j-smaller
-loop-j-smaller c = omega arith
-
 pub loop-j-preserved : goal.loop-j-preserved
 loop-j-preserved c = let w = fill16 _ c.loop-j.present _ _ _ c.loop-j.invariant.1 c.requires c.loop-j-test.true c.keep.ensures c.loop-j.invariant.3 in let z = fill16 _ c.loop-j.missing _ _ _ c.loop-j.invariant.2 c.requires c.loop-j-test.true c.keep-in-loop-j.ensures c.loop-j.invariant.4 in (w.0, w.1, z.1, w.2, z.2)
 

@@ -11,12 +11,6 @@ loop-c-init c = (omega arith, refl, refl)
 pub keep_unit-requires : goal.keep_unit-requires
 keep_unit-requires c = (c.requires.0, c.requires.1, c.loop-c-test.true, c.requires.2, c.loop-c.invariant.1 ∙ c.requires.3)
 
-pub overflow_add-c : goal.overflow_add-c
-overflow_add-c c = omega (arith, c.requires.0.right.solvable.data_max)
-
-pub loop-c-smaller : goal.loop-c-smaller
-loop-c-smaller c = omega arith
-
 pub loop-c-preserved : goal.loop-c-preserved
 loop-c-preserved c = (omega arith, c.keep_unit.auto.lost ∙ c.loop-c.invariant.1, paint_turn _ _ _ _ _ _ _ _ c.loop-c.invariant.2 c.keep_unit.ensures)
 

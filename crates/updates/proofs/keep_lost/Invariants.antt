@@ -9,6 +9,3 @@ use Rattle.updates.proofs.keep_lost.Given as goal
 
 abbrev pub invariant-loop-c : goal.invariant-loop-c
 invariant-loop-c l = (l.c ≤ l.p.n) × (length l.lost ≡ length l.initial.lost) × (l.lost ≡ paint (miss_of l.p) (rank_place l.p) l.len (kept_run l.p l.image l.bytes l.starts l.from l.units l.lo) l.c l.initial.lost)
-
-abbrev pub decreases-loop-c : goal.decreases-loop-c
-decreases-loop-c l = l.n - l.c

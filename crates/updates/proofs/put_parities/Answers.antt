@@ -16,12 +16,6 @@ loop-i-init c = (omega arith, refl, refl)
 pub put_parity-requires : goal.put_parity-requires
 put_parity-requires c = (fits_at c.requires.0 c.loop-i.invariant.1, c.requires.1, c.requires.2, c.loop-i-test.true, c.image_starts-starts.ensures, c.requires.3)
 
-pub overflow_add-i : goal.overflow_add-i
-overflow_add-i c = omega (arith, c.requires.0.right.solvable.parity_max)
-
-pub loop-i-smaller : goal.loop-i-smaller
-loop-i-smaller c = omega arith
-
 pub loop-i-preserved : goal.loop-i-preserved
 loop-i-preserved c = (omega arith, c.put_parity.auto.image ∙ c.loop-i.invariant.1, parities_turn _ c.requires.1 _ _ c.requires.2 _ _ c.requires.0 _ _ _ c.loop-i-test.true c.loop-i.invariant.1 c.loop-i.invariant.2 c.put_parity.ensures)
 

@@ -12,12 +12,6 @@ loop-i-init c = (omega arith, refl, refl)
 pub put_whole-requires : goal.put_whole-requires
 put_whole-requires c = (fits_at c.requires.0 c.loop-i.invariant.1, c.requires.1, c.loop-i-test.true, c.requires.2)
 
-pub overflow_add-i : goal.overflow_add-i
-overflow_add-i c = omega (arith, c.requires.0.right.solvable.parity_max)
-
-pub loop-i-smaller : goal.loop-i-smaller
-loop-i-smaller c = omega arith
-
 pub loop-i-preserved : goal.loop-i-preserved
 loop-i-preserved c = (omega arith, c.put_whole.auto.image ∙ c.loop-i.invariant.1, paint_turn _ _ _ _ _ _ _ _ c.loop-i.invariant.2 c.put_whole.ensures)
 

@@ -7,6 +7,3 @@ use Rattle.updates.proofs.put_wholes.Given as goal
 
 abbrev pub invariant-loop-i : goal.invariant-loop-i
 invariant-loop-i l = (l.i ≤ l.p.k) × (length l.image ≡ length l.initial.image) × (l.image ≡ paint (standing l.p) (parity_at l.p l.lo) l.len (whole_parity l.p l.bytes l.starts) l.i l.initial.image)
-
-abbrev pub decreases-loop-i : goal.decreases-loop-i
-decreases-loop-i l = l.k - l.i

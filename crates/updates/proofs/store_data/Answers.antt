@@ -12,12 +12,6 @@ loop-c-init c = (omega arith, refl, refl)
 pub store_unit-requires : goal.store_unit-requires
 store_unit-requires c = (fits_at c.requires.0 c.loop-c.invariant.1, c.requires.1, c.loop-c-test.true, c.requires.2)
 
-pub overflow_add-c : goal.overflow_add-c
-overflow_add-c c = omega (arith, c.requires.0.right.solvable.data_max)
-
-pub loop-c-smaller : goal.loop-c-smaller
-loop-c-smaller c = omega arith
-
 pub loop-c-preserved : goal.loop-c-preserved
 loop-c-preserved c = (omega arith, c.store_unit.auto.image ∙ c.loop-c.invariant.1, paint_turn _ _ _ _ _ _ _ _ c.loop-c.invariant.2 c.store_unit.ensures)
 

@@ -10,6 +10,3 @@ use Rattle.updates.proofs.store_data.Given as goal
 
 abbrev pub invariant-loop-c : goal.invariant-loop-c
 invariant-loop-c l = (l.c ≤ l.p.n) × (length l.image ≡ length l.initial.image) × (l.image ≡ paint (stores_in l.p (within l.from l.units)) (λ d. at_of l.p d + l.lo) l.len (λ d. run_of l.bytes (get_or l.starts d 0)) l.c l.initial.image)
-
-abbrev pub decreases-loop-c : goal.decreases-loop-c
-decreases-loop-c l = l.n - l.c
