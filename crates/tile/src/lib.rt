@@ -1,24 +1,19 @@
 // The permutation of a tile: which target each column of the tile lies on.
 #![tactic(auto)]
 
-ghost use Rattle.std.specs.Prelude.{◌≡◌, ◌*◌, ◌%◌, ◌^◌, ◌<◌, ◌≤◌, length};
+ghost use Rattle.std.specs.Prelude.{ℕ, ◌≢◌, IfSome, IsNone, ◌≡◌, ◌*◌, ◌%◌, ◌^◌, ◌<◌, ◌≤◌, length};
 ghost use Rattle.lists.specs.Tabulate.{at};
 ghost use Rattle.tile.specs.Generator.{start_of, next_of, extra, begin_of, draw_of};
-ghost use Rattle.tile.specs.Permutation.{own, exchange, permutation_of, inverse_of};
+ghost use Rattle.tile.specs.Permutation.{own, permutation_of, inverse_of};
 ghost use Rattle.tile.specs.Laws.{Permutes};
 
 const HALF: u64 = 4294967296;
 
-// a * b modulo 2^64, from products of 32-bit halves.
+// a * b modulo 2^64: the method under the contract that docs/TRACE.md names.
 pub fn wrapping_mul(a: u64, b: u64) -> u64
     ensures { result ≡ a * b % 2 ^ 64 }
 {
-    let a0 = a % HALF;
-    let a1 = a / HALF;
-    let b0 = b % HALF;
-    let b1 = b / HALF;
-    let cross = (a1 * b0 % HALF + a0 * b1 % HALF) % HALF;
-    std::num::wrapping_add_u64(a0 * b0, cross * HALF)
+    a.wrapping_mul(b)
 }
 
 #[derive(Clone, Copy)]
@@ -38,25 +33,28 @@ impl Generator {
     // How many advances edition 2 makes before the exchanges begin.
     pub const EXTRA: u64 = 4;
 
+    #[tactic(auto, unfolding(crate::specs::Generator::start_of))]
     pub fn start(cookie: u64, tile: u64) -> Self
         ensures { result.state ≡ start_of cookie tile }
     {
         Generator {
-            state: std::num::wrapping_add_u64(cookie, wrapping_mul(Self::SPREAD, tile)),
+            state: cookie.wrapping_add(Self::SPREAD.wrapping_mul(tile)),
         }
     }
 
+    #[tactic(auto, unfolding(crate::specs::Generator::next_of))]
     pub fn advance(self) -> Self
         ensures { result.state ≡ next_of self.state }
     {
         Generator {
-            state: std::num::wrapping_add_u64(
-                wrapping_mul(Self::MULTIPLIER, self.state),
-                Self::INCREMENT,
-            ),
+            state: Self::MULTIPLIER
+                .wrapping_mul(self.state)
+                .wrapping_add(Self::INCREMENT),
         }
     }
 
+    // By the edition's number, as a layout from C has it.
+    #[tactic(auto, unfolding(crate::specs::Generator::extra))]
     fn extra_advances(edition: u64) -> u64
         ensures { result ≡ extra edition }
     {
@@ -68,10 +66,8 @@ impl Generator {
         ensures { result.state ≡ begin_of edition cookie tile }
     {
         let mut g = Self::start(cookie, tile);
-        let mut left = Self::extra_advances(edition);
-        while 0 < left {
+        for _ in 0..Self::extra_advances(edition) {
             g = g.advance();
-            left -= 1;
         }
         g
     }
@@ -89,22 +85,7 @@ impl Generator {
 fn own_indices() -> [u8; 64]
     ensures { result ≡ own }
 {
-    let mut a = [0u8; 64];
-    for t in 0..64 {
-        a[t] = t as u8;
-    }
-    a
-}
-
-// Exchanges entries i and j. In place: a copy of the array at each exchange would take longer than all the rest.
-fn swap(a: &mut [u8; 64], i: usize, j: usize)
-    requires { (length a.old ≡ 64) × (i < 64) × (j < 64) }
-    ensures { a.new ≡ exchange a.old i j }
-{
-    let x = a[i];
-    let y = a[j];
-    a[i] = y;
-    a[j] = x;
+    std::array::from_fn(|t| t as u8)
 }
 
 // The target of each column of a tile.
@@ -114,12 +95,10 @@ pub fn permutation(edition: u64, p: u64, cookie: u64, tile: u64) -> [u8; 64]
 {
     let mut a = own_indices();
     let mut g = Generator::begin(edition, cookie, tile);
-    let mut i = p - 1;
-    while 0 < i {
+    for i in (1..p).rev() {
         g = g.advance();
         let j = g.draw(i);
-        swap(&mut a, i as usize, j as usize);
-        i -= 1;
+        a.swap(i as usize, j as usize);
     }
     a
 }
@@ -130,11 +109,18 @@ fn inverted(a: [u8; 64]) -> [u8; 64]
     ensures { result ≡ inverse_of a }
 {
     let mut b = [0u8; 64];
-    for t in 0..64 {
-        let v = a[t] as usize;
-        b[v] = t as u8;
+    for (t, &v) in a.iter().enumerate() {
+        b[usize::from(v)] = t as u8;
     }
     b
+}
+
+// Where target t stands.
+fn find(a: &[u8; 64], t: u64) -> Option<usize>
+    ensures found { IfSome result (λ i. (i < length a.now) × (at a.now i ≡ t)) }
+    ensures none { IsNone result → (k : ℕ) → k < length a.now → at a.now k ≢ t }
+{
+    a.iter().position(|&v| u64::from(v) == t)
 }
 
 // The column of one target, by the permutation of its tile: the inverse has 64 entries to fill where one is asked for.
@@ -142,12 +128,7 @@ pub fn column_of(a: &[u8; 64], t: u64) -> u64
     requires { (length a.now ≡ 64) × Permutes 64 a.now × (t < 64) }
     ensures { result ≡ at (inverse_of a.now) t }
 {
-    for column in 0..64 {
-        if a[column] as u64 == t {
-            return column as u64;
-        }
-    }
-    0
+    find(a, t).unwrap() as u64
 }
 
 // The column of each target of a tile.
