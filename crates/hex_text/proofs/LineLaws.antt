@@ -1,20 +1,17 @@
 -- A line written is right, a right line is written so, and each tells the other's bytes.
-use Rattle.std.specs.Prelude.{◌≡◌, false, List, ℕ, ◌+◌, ◌*◌, ◌-◌, ◌/◌, ◌%◌, ◌^◌, ◌≤◌, ◌<◌, leb, length}
+use Rattle.std.specs.Prelude.{◌≡◌, false, List, ℕ, ◌+◌, ◌*◌, ◌≤◌, ◌<◌, leb, length}
 use Rattle.std.proofs.Math.Path.{sym, ap}
-use Rattle.std.proofs.Common.{◌∙◌, mod-lt, zero-lt-suc, arith}
-use Rattle.std.proofs.Math.Logic.{⊎_elim}
+use Rattle.std.proofs.Common.{◌∙◌, arith}
 use Rattle.std.proofs.Math.Bool.{true}
-use borrow.Author.Tests.{eq-eqb, eqb-true, le-leb, leb-true}
-use Rattle.lists.specs.Pick.{pick_true, pick-false, both_true, both_hold, either_way}
-use Rattle.lists.specs.Part.{within, within-true, within_in, within_cases}
-use Rattle.lists.specs.Digits.{div_below}
-use Rattle.lists.specs.Search.{all, all-at, all_true}
+use borrow.Author.Tests.{eqb-true, leb-true}
+use Rattle.lists.specs.Pick.{pick_true, pick-false, both_true}
+use Rattle.lists.specs.Part.{within, within_in, within_cases}
+use Rattle.lists.specs.Search.{all, all-at}
 use Rattle.lists.specs.Tabulate.{at}
-use Rattle.hex_text.specs.Hex.{digit_at, line_char}
-use Rattle.hex_text.specs.HexChars.{char_byte}
+use Rattle.hex_text.specs.Hex.{line_char}
 use Rattle.hex_text.specs.CharLaws.{fixed_same, digit_place, first_digit, second_digit}
-use Rattle.hex_text.specs.Digit.{is_digit, digit_value}
-use Rattle.hex_text.specs.DigitLaws.{digit_is, byte_told, told_high, told-low}
+use Rattle.hex_text.specs.Digit.{is_digit}
+use Rattle.hex_text.specs.DigitLaws.{told_high, told-low}
 use Rattle.hex_text.specs.Line.{char_right, line_right, byte_at}
 
 module _ (text : List ℕ) (a target frame u : ℕ) (right : line_right text a target frame u ≡ true) where

@@ -1,25 +1,22 @@
 -- The runs of a line: what each turn of the code's loops adds, and that the runs make the line.
-use Rattle.std.specs.Prelude.{◌≡◌, refl, Bool, true, false, List, ltb, leb, length, set}
+use Rattle.std.specs.Prelude.{◌≡◌, Bool, true, false, List, leb, length}
 use Rattle.std.proofs.Math.Path.{sym, ap}
-use Rattle.std.proofs.Common.{ap₂, ◌∙◌, subst, mod-eq_of_lt, div-one}
+use Rattle.std.proofs.Common.{◌∙◌, subst}
 use Rattle.std.proofs.Math.Logic.{⊎_elim}
-use Prim.Native.Nat.{ℕ, suc, ◌+◌, ◌*◌, ◌-◌, ◌/◌, ◌%◌, ◌≤◌, ◌<◌}
+use Prim.Native.Nat.{ℕ, ◌+◌, ◌*◌, ◌-◌, ◌≤◌, ◌<◌}
 use native.Mathlib.Omega.{arith}
 use Rattle.std.proofs.Math.Dec.{eqb}
-use borrow.Author.Tests.{eq-eqb, eqb-true, lt-ltb, le-ltb, le-leb}
-use Rattle.lists.specs.Pick.{pick, pick_true, pick-false, both, both_hold, below_or_not, either_way, clash, not-both_ways}
+use borrow.Author.Tests.{eq-eqb, eqb-true, le-leb}
+use Rattle.lists.specs.Pick.{pick_true, pick-false, both_hold, below_or_not, either_way, clash, not-both_ways}
 use Rattle.lists.specs.Part.{within, within_in, within-before, within-after}
-use Rattle.lists.specs.Search.{all, all-at, all_true}
-use Rattle.lists.specs.Span.{Span, span_step, span_join}
+use Rattle.lists.specs.Search.{all-at, all_true}
 use Rattle.lists.specs.Tabulate.{at}
-use Rattle.hex_text.specs.Hex.{hex_digit, digit_at}
-use Rattle.hex_text.specs.HexChars.{char_byte, char_end}
-use Rattle.hex_text.specs.CharLaws.{head_same, which_pair, which_half}
-use Rattle.hex_text.specs.Digit.{is_digit, digit_value}
-use Rattle.hex_text.specs.DigitLaws.{none_value, value_lt}
-use Rattle.hex_text.specs.Line.{char_right, line_right, byte_at}
+use Rattle.hex_text.specs.HexChars.{char_end}
+use Rattle.hex_text.specs.CharLaws.{head_same}
+use Rattle.hex_text.specs.Digit.{is_digit}
+use Rattle.hex_text.specs.Line.{char_right, line_right}
 use Rattle.hex_text.proofs.LineLaws.{char_right_lem}
-use Rattle.hex_text.specs.Runs.{letter_or16, decimal_or, digit_or16, head_of, head_from, unit_from, line_from, head_right, digits_right, bytes_from}
+use Rattle.hex_text.specs.Runs.{head_of, head_right, digits_right}
 
 module _ (text : List ℕ) (a target frame u : ℕ) where
   head_char : (j : ℕ) → j < 10 → (c : ℕ) → char_right target frame u j c ≡ eqb c (head_of target frame j)

@@ -1,8 +1,8 @@
 -- Digits and numbers as the code's loops read them: what each turn adds, and that no number of 16 digits is too large.
-use Rattle.std.specs.Prelude.{◌≡◌, refl, true, List, ℕ, zero, suc, ◌+◌, ◌*◌, ◌^◌, ◌%◌, ◌≤◌, ◌<◌, ltb}
+use Rattle.std.specs.Prelude.{◌≡◌, refl, true, List, ℕ, zero, suc, max, ◌+◌, ◌*◌, ◌^◌, ◌%◌, ◌≤◌, ◌<◌, ltb}
 use Rattle.std.proofs.Common.{ap, ap₂, ◌∙◌, arith}
 use Rattle.std.proofs.Math.Nat.{pow-succ', pow-le-pow_right}
-use Rattle.lists.specs.Pick.{pick, both}
+use Rattle.lists.specs.Pick.{both}
 use Rattle.lists.specs.Search.{all}
 use Rattle.lists.specs.Tabulate.{at}
 use Rattle.hex_text.specs.Digit.{digits_at, number_at}
@@ -15,7 +15,7 @@ unfolding all
 no_digits text a = refl
 
 -- one digit more, by the largest value met
-pub digit_turn : (text : List ℕ) (a i worst : ℕ) {c d : ℕ} → c ≡ digit_or16 (at text (a + i)) → d ≡ pick (ltb worst c) c worst
+pub digit_turn : (text : List ℕ) (a i worst : ℕ) {c d : ℕ} → c ≡ digit_or16 (at text (a + i)) → d ≡ max worst c
     → ltb worst 16 ≡ digits_at text a i → ltb d 16 ≡ digits_at text a (i + 1)
 unfolding all
 digit_turn text a i worst {c} {d} ec ed e =
@@ -45,4 +45,12 @@ pub number_fits : (text : List ℕ) (a n : ℕ) → n ≤ 16 → number_at text 
 number_fits text a n h =
     let below = number_lt text a n in
     let most : 16 ^ n ≤ 18446744073709551616 = pow-le-pow_right {n = 16} (omega arith) h in
+    omega (arith, below, most)
+
+-- there is room for a digit more after 15
+pub number_room : (text : List ℕ) (a n : ℕ) → n < 16 → 16 * number_at text a n + 16 ≤ 18446744073709551616
+number_room text a n h =
+    let below = number_lt text a n in
+    let few : n ≤ 15 = omega arith in
+    let most : 16 ^ n ≤ 1152921504606846976 = pow-le-pow_right {n = 16} (omega arith) few in
     omega (arith, below, most)

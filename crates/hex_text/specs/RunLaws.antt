@@ -1,23 +1,28 @@
 -- The runs of a line: what each turn of the code's loops adds, and that the runs make the line.
-use Rattle.std.specs.Prelude.{◌≡◌, refl, Bool, true, false, List, ltb, leb, length, set}
+use Rattle.std.specs.Prelude.{◌≡◌, refl, Bool, true, false, List, ltb, length, set, take, drop}
 use Rattle.std.proofs.Math.Path.{sym, ap}
-use Rattle.std.proofs.Common.{ap₂, ◌∙◌, subst, mod-eq_of_lt, div-one}
+use Rattle.std.proofs.Common.{get_or-take, get_or-drop, length-take, ap₂, ◌∙◌, subst, mod-eq_of_lt, div-one}
 use Rattle.std.proofs.Math.Logic.{⊎_elim}
-use Prim.Native.Nat.{ℕ, suc, ◌+◌, ◌*◌, ◌-◌, ◌/◌, ◌%◌, ◌≤◌, ◌<◌}
+use Prim.Native.Nat.{ℕ, suc, max, ◌+◌, ◌*◌, ◌-◌, ◌/◌, ◌%◌, ◌≤◌, ◌<◌}
+use Rattle.std.proofs.Math.Nat.{max-eq_left, max-eq_right}
 use native.Mathlib.Omega.{arith}
 use Rattle.std.proofs.Math.Dec.{eqb}
-use borrow.Author.Tests.{eq-eqb, eqb-true, lt-ltb, le-ltb, le-leb}
-use Rattle.lists.specs.Pick.{pick, pick_true, pick-false, both, both_hold, below_or_not, either_way, clash, not-both_ways}
-use Rattle.lists.specs.Part.{within, within_in, within-before, within-after}
+use borrow.Author.Tests.{eq-eqb, eqb-true, lt-ltb, le-ltb}
+use borrow.Rule.Slice.PartMut.{put_mid}
+use Rattle.std.proofs.Common.{rules}
+use Rattle.std.proofs.lemmas.List.{places}
+use Rattle.std.specs.Cmp.Lexicographic.{pointwise, same_text, other_text}
+use Rattle.lists.specs.Pick.{pick, pick_true, pick-false, both, both_hold, below_or_not, either_way, not-both_ways}
+use Rattle.lists.specs.Part.{within}
 use Rattle.lists.specs.Search.{all, all-at, all_true}
 use Rattle.lists.specs.Span.{Span, span_step, span_join}
-use Rattle.lists.specs.Tabulate.{at}
+use Rattle.lists.specs.Tabulate.{at, tabulate, length-tabulate, get_d_tabulate, tabulate_ext, part_tabulated}
 use Rattle.hex_text.specs.Hex.{hex_digit, digit_at}
 use Rattle.hex_text.specs.HexChars.{char_byte, char_end}
 use Rattle.hex_text.specs.CharLaws.{head_same, which_pair, which_half}
 use Rattle.hex_text.specs.Digit.{is_digit, digit_value}
 use Rattle.hex_text.specs.DigitLaws.{none_value, value_lt}
-use Rattle.hex_text.specs.Line.{char_right, line_right, byte_at}
+use Rattle.hex_text.specs.Line.{byte_at}
 use Rattle.hex_text.specs.Runs.{letter_or16, decimal_or, digit_or16, head_of, head_from, unit_from, line_from, head_right, digits_right, bytes_from}
 
 -- ---- a digit in one number
@@ -50,34 +55,60 @@ digit_low c =
     (either_way (is_digit c))
 
 -- the larger of two is below a bound where both are
-pub larger_below : (a b m : ℕ) → ltb (pick (ltb a b) b a) m ≡ both (ltb b m) (ltb a m)
+pub larger_below : (a b m : ℕ) → ltb (max a b) m ≡ both (ltb b m) (ltb a m)
 larger_below a b m =
     below_or_not a b
     (λ (h : a < b).
-    ap (λ (x : ℕ). ltb x m) (pick_true (ltb a b) b a (lt-ltb a b h))
+    ap (λ (x : ℕ). ltb x m) (max-eq_right (omega arith))
     ∙ below_or_not b m (λ (k : b < m). lt-ltb b m k ∙ sym (both_hold (ltb b m) (ltb a m) (lt-ltb b m k) (lt-ltb a m (omega arith))))
     (λ (k : m ≤ b). le-ltb b m k ∙ sym (pick-false (ltb b m) (ltb a m) false (le-ltb b m k))))
     (λ (h : b ≤ a).
-    ap (λ (x : ℕ). ltb x m) (pick-false (ltb a b) b a (le-ltb a b h))
+    ap (λ (x : ℕ). ltb x m) (max-eq_left h)
     ∙ below_or_not b m (λ (k : b < m). sym (pick_true (ltb b m) (ltb a m) false (lt-ltb b m k)))
     (λ (k : m ≤ b). le-ltb a m (omega arith) ∙ sym (pick-false (ltb b m) (ltb a m) false (le-ltb b m k))))
+
+-- a character of the part of a text that begins at `from`
+module _ (text : List ℕ) (from n i : ℕ) (h : i < length (take n (drop from text))) where
+  pub part_lt : i < n
+  part_lt = omega (arith, h, length-take n (drop from text))
+
+  pub part_at : at (take n (drop from text)) i ≡ at text (from + i)
+  part_at = get_or-take n (drop from text) i 0 part_lt ∙ get_or-drop from text i 0
 
 -- ---- the ten characters before the bytes
 
 module _ (text : List ℕ) (a target frame : ℕ) where
-  pub heads_yes : ((k : ℕ) → k < 10 → at text (a + k) ≡ head_of target frame k) → true ≡ head_right text a target frame
-  heads_yes h = sym (all_true (λ j. eqb (at text (a + j)) (head_of target frame j)) 10 (λ k b. eq-eqb _ _ (h k b)))
+  head_stands : take 10 (drop a text) ≡ tabulate 10 (head_of target frame) → true ≡ head_right text a target frame
+  head_stands e =
+      sym (all_true (λ j. eqb (at text (a + j)) (head_of target frame j)) 10
+      (λ k b. eq-eqb _ _ (sym (get_or-take 10 (drop a text) k 0 b ∙ get_or-drop a text k 0) ∙ ap (λ (l : List ℕ). at l k) e ∙ get_d_tabulate 10 (head_of target frame) k 0 b)))
 
-  pub heads_no : (k : ℕ) → k < 10 → (at text (a + k) ≡ head_of target frame k → ⊥) → false ≡ head_right text a target frame
-  heads_no k h f =
+  head_differs : (take 10 (drop a text) ≡ tabulate 10 (head_of target frame) → ⊥) → a + 10 ≤ length text → false ≡ head_right text a target frame
+  head_differs f room =
       sym (not-both_ways (head_right text a target frame)
-      (λ (t : head_right text a target frame ≡ true). f (eqb-true _ _ (all-at (λ j. eqb (at text (a + j)) (head_of target frame j)) 10 t k h))))
+      (λ (t : head_right text a target frame ≡ true).
+      f (part_tabulated 10 a text room
+      ∙ tabulate_ext 0 10 _ _ (λ k b. eqb-true _ _ (all-at (λ j. eqb (at text (a + j)) (head_of target frame j)) 10 t k b)))))
 
-pub head_turn : (a target frame j v : ℕ) {old : List ℕ} (l : List ℕ) → a + j < length l → Span (head_from a target frame) a (a + j) old l → v ≡ head_of target frame j
-    → Span (head_from a target frame) a (a + (j + 1)) old (set l (a + j) v)
-head_turn a target frame j v l b s e =
-    span_step (head_from a target frame) a (a + j) l v (omega arith) b (omega arith) s
-    (e ∙ ap (head_of target frame) (let q : j ≡ a + j - a = omega arith in q))
+  -- the test of the ten characters at once
+  pub head_told : (right : Bool) {n : ℕ} {head : List ℕ} → n ≡ 10 → head ≡ tabulate 10 (head_of target frame)
+      → right ≡ pointwise eqb (take n (drop a text)) head → a + 10 ≤ length text → right ≡ head_right text a target frame
+  head_told true q h e room = head_stands (sym (ap (λ (m : ℕ). take m (drop a text)) q) ∙ same_text _ _ e ∙ h)
+  head_told false q h e room = head_differs (λ (r : take 10 (drop a text) ≡ tabulate 10 (head_of target frame)). other_text _ _ e (ap (λ (m : ℕ). take m (drop a text)) q ∙ r ∙ sym h)) room
+
+-- the ten characters written at once
+pub head_put : (a target frame : ℕ) (old : List ℕ) {n : ℕ} {head : List ℕ} → n ≡ 10 → a + 10 ≤ length old → head ≡ tabulate 10 (head_of target frame)
+    → Span (head_from a target frame) a (a + 10) old (put_mid a n old head)
+head_put a target frame old {n} {head} q room h =
+    let long : length head ≡ 10 = ap length h ∙ length-tabulate 10 (head_of target frame) in
+    record {
+      len = search (rules, places);
+      done = λ y b c.
+          let e : at (put_mid a n old head) y ≡ at head (y - a) = search (rules, places) in
+          e ∙ ap (λ (l : List ℕ). at l (y - a)) h ∙ get_d_tabulate 10 (head_of target frame) (y - a) 0 (omega arith);
+      before = λ y b. search (rules, places);
+      after = λ y b. search (rules, places);
+    }
 
 -- ---- a unit written: two digits a turn
 
@@ -140,7 +171,7 @@ module _ (text : List ℕ) (from o : ℕ) where
 
   -- the largest value met, and what it says
   pub digits_turn : (worst : ℕ) {a b c d : ℕ} → a ≡ digit_or16 (at text (from + 2 * o)) → b ≡ digit_or16 (at text (from + 2 * o + 1))
-      → c ≡ pick (ltb worst a) a worst → d ≡ pick (ltb c b) b c → ltb worst 16 ≡ digits_right text from o → ltb d 16 ≡ digits_right text from (o + 1)
+      → c ≡ max worst a → d ≡ max c b → ltb worst 16 ≡ digits_right text from o → ltb d 16 ≡ digits_right text from (o + 1)
   digits_turn worst {a} {b} {c} {d} ea eb ec ed e =
       ap (λ (x : ℕ). ltb x 16) ed ∙ larger_below c b 16
       ∙ ap₂ both (ap (λ (x : ℕ). ltb x 16) eb ∙ digit_says _)

@@ -1,15 +1,15 @@
 // Hex digits and hex lines: a line written at a place of a text, and one that stands there tested and read back.
 #![tactic(auto)]
 
-ghost use Rattle.std.specs.Prelude.{◌≡◌, true, ◌<◌, ◌≤◌, ◌+◌, ◌*◌, ltb, length};
-ghost use Rattle.lists.specs.Pick.{pick};
+ghost use Rattle.std.specs.Prelude.{◌≡◌, true, ◌<◌, ◌≤◌, ◌+◌, ◌*◌, ◌%◌, length};
+ghost use Rattle.lists.specs.Tabulate.{tabulate};
 ghost use Rattle.lists.specs.Span.{Span};
 ghost use Rattle.lists.specs.Put.{Put};
 ghost use Rattle.hex_text.specs.Hex.{hex_digit, digits_of};
 ghost use Rattle.hex_text.specs.Digit.{digits_at, number_at};
 ghost use Rattle.hex_text.specs.Line.{line_right};
 ghost use Rattle.hex_text.specs.Runs.{letter_or16, decimal_or, digit_or16, head_of, head_from, head_right, unit_from, digits_right, line_from, bytes_from};
-ghost use Rattle.hex_text.specs.Tell.{told_by, Pairs};
+ghost use Rattle.hex_text.specs.Tell.{told_by, pair_at, Pairs};
 
 // The lower-case digit of a number below 16.
 pub fn hex_digit(x: u8) -> u8
@@ -17,35 +17,29 @@ pub fn hex_digit(x: u8) -> u8
     ensures { result ≡ hex_digit x }
 {
     if x < 10 {
-        return 48 + x;
+        return b'0' + x;
     }
-    87 + x
+    b'a' - 10 + x
 }
 
 // The value of one of the six letters, 16 for anything else. Letters and digits are tested apart: so the compiler makes one test of each run.
 fn letter_or_16(c: u8) -> u8
     ensures { result ≡ letter_or16 c }
 {
-    if c < 97 {
-        return 16;
+    match c {
+        b'a'..=b'f' => c - b'a' + 10,
+        _ => 16,
     }
-    if c < 103 {
-        return c - 87;
-    }
-    16
 }
 
 // The value of one of the ten digits, `other` for anything else.
 fn decimal_or(c: u8, other: u8) -> u8
     ensures { result ≡ decimal_or c other }
 {
-    if c < 48 {
-        return other;
+    match c {
+        b'0'..=b'9' => c - b'0',
+        _ => other,
     }
-    if c < 58 {
-        return c - 48;
-    }
-    other
 }
 
 // The value of a lower-case digit, 16 for anything else.
@@ -55,40 +49,29 @@ fn digit_or_16(c: u8) -> u8
     decimal_or(c, letter_or_16(c))
 }
 
-fn larger(a: u8, b: u8) -> u8
-    ensures { result ≡ pick (ltb a b) b a }
+// The digit that counts least.
+fn last_digit(x: u64) -> u8
+    ensures { result ≡ hex_digit (x % 16) }
 {
-    if a < b {
-        return b;
-    }
-    a
+    hex_digit((x % 16) as u8)
 }
 
-// Character j of the ten before a line's bytes: target, space, frame, space. The divisors are literals, so nothing is divided at run time.
-fn head_char(target: u64, frame: u64, j: usize) -> u8
-    requires { j < 10 }
-    ensures { result ≡ head_of target frame j }
+// The ten characters before a line's bytes: target, space, frame, space. The divisors are literals, so nothing is divided at run time.
+fn head(target: u64, frame: u64) -> [u8; 10]
+    ensures { result ≡ tabulate 10 (head_of target frame) }
 {
-    if j < 3 {
-        return match j {
-            0 => hex_digit((target / 16 % 16) as u8),
-            1 => hex_digit((target % 16) as u8),
-            _ => 32,
-        };
-    }
-    if j < 6 {
-        return match j {
-            3 => hex_digit((frame / 1048576 % 16) as u8),
-            4 => hex_digit((frame / 65536 % 16) as u8),
-            _ => hex_digit((frame / 4096 % 16) as u8),
-        };
-    }
-    match j {
-        6 => hex_digit((frame / 256 % 16) as u8),
-        7 => hex_digit((frame / 16 % 16) as u8),
-        8 => hex_digit((frame % 16) as u8),
-        _ => 32,
-    }
+    [
+        last_digit(target / 0x10),
+        last_digit(target),
+        b' ',
+        last_digit(frame / 0x10_0000),
+        last_digit(frame / 0x1_0000),
+        last_digit(frame / 0x1000),
+        last_digit(frame / 0x100),
+        last_digit(frame / 0x10),
+        last_digit(frame),
+        b' ',
+    ]
 }
 
 // ---- digits written
@@ -98,11 +81,9 @@ pub fn write_number(x: u64, n: usize, text: &mut [u8], at: usize)
     requires { at + n ≤ length text.old }
     ensures { Put at (digits_of n x) text.old text.new }
 {
-    let mut left = n;
     let mut rest = x;
-    while 0 < left {
-        left -= 1;
-        text[at + left] = hex_digit((rest % 16) as u8);
+    for j in (0..n).rev() {
+        text[at + j] = last_digit(rest);
         rest /= 16;
     }
 }
@@ -113,9 +94,7 @@ fn write_head(target: u64, frame: u64, text: &mut [u8], at: usize)
     requires { at + 10 ≤ length text.old }
     ensures { Span (head_from at target frame) at (at + 10) text.old text.new }
 {
-    for i in 0..10 {
-        text[at + i] = head_char(target, frame, i);
-    }
+    text[at..at + 10].copy_from_slice(&head(target, frame));
 }
 
 // Two digits for each of the u bytes of the image from `begins` on, high before low; `% 16` as in `digit_at`, for bytes it costs nothing.
@@ -123,14 +102,11 @@ pub fn write_unit(image: &[u8], begins: usize, u: usize, text: &mut [u8], from: 
     requires { (begins + u ≤ length image.now) × (from + 2 * u ≤ length text.old) }
     ensures { Span (unit_from image.now begins from) from (from + 2 * u) text.old text.new }
 {
-    let mut o = 0;
-    let mut at = from;
-    while o < u {
-        let b = image[begins + o];
-        text[at] = hex_digit(b / 16 % 16);
-        text[at + 1] = hex_digit(b % 16);
-        o += 1;
-        at += 2;
+    for o in 0..u {
+        let at = from + 2 * o;
+        let byte = image[begins + o];
+        text[at] = hex_digit(byte / 16 % 16);
+        text[at + 1] = hex_digit(byte % 16);
     }
 }
 
@@ -149,7 +125,7 @@ pub fn write_line(
 {
     write_head(target, frame, text, at);
     write_unit(image, begins, u, text, at + 10);
-    text[at + 10 + 2 * u] = 10;
+    text[at + 10 + 2 * u] = b'\n';
 }
 
 // ---- digits read
@@ -160,8 +136,8 @@ pub fn is_digits(text: &[u8], from: usize, n: usize) -> bool
     ensures { result ≡ digits_at text.now from n }
 {
     let mut largest: u8 = 0;
-    for i in 0..n {
-        largest = larger(largest, digit_or_16(text[from + i]));
+    for c in &text[from..from + n] {
+        largest = largest.max(digit_or_16(*c));
     }
     largest < 16
 }
@@ -172,20 +148,20 @@ pub fn number_at(text: &[u8], from: usize, n: usize) -> u64
     ensures { result ≡ number_at text.now from n }
 {
     let mut number: u64 = 0;
-    for i in 0..n {
-        let digit = digit_or_16(text[from + i]) % 16;
-        number = 16 * number + digit as u64;
+    for c in &text[from..from + n] {
+        number = 16 * number + u64::from(digit_or_16(*c) % 16);
     }
     number
 }
 
 // ---- bytes that digits tell, where they are known to be digits
 
-// Two characters as one number, the first counting least: so the compiler loads them at once.
-fn pair_of(a: u8, b: u8) -> u16
-    ensures { result ≡ a + b * 256 }
+// The two characters at place `at` as one number, the first counting least: so the compiler loads them at once.
+fn pair_of(text: &[u8], at: usize) -> u16
+    requires { at + 1 < length text.now }
+    ensures { result ≡ pair_at text.now at }
 {
-    a as u16 + b as u16 * 256
+    u16::from_le_bytes([text[at], text[at + 1]])
 }
 
 // The byte that a pair of digits tells, without a test: a digit counts its low half, a letter (64 and more) 9 more than that.
@@ -202,9 +178,8 @@ fn pairs_at(text: &[u8], from: usize) -> [u16; 32]
     ensures { Pairs text.now from result }
 {
     let mut pairs = [0u16; 32];
-    for o in 0..32 {
-        let at = from + 2 * o;
-        pairs[o] = pair_of(text[at], text[at + 1]);
+    for (o, pair) in pairs.iter_mut().enumerate() {
+        *pair = pair_of(text, from + 2 * o);
     }
     pairs
 }
@@ -214,9 +189,8 @@ fn tell_block(text: &[u8], from: usize, image: &mut [u8], begins: usize)
     requires { (from + 64 ≤ length text.now) × (begins + 32 ≤ length image.old) × (digits_at text.now from 64 ≡ true) }
     ensures { Span (bytes_from text.now from begins) begins (begins + 32) image.old image.new }
 {
-    let pairs = pairs_at(text, from);
-    for o in 0..32 {
-        image[begins + o] = told_by(pairs[o]);
+    for (o, pair) in pairs_at(text, from).iter().enumerate() {
+        image[begins + o] = told_by(*pair);
     }
 }
 
@@ -225,8 +199,7 @@ fn tell_rest(text: &[u8], from: usize, image: &mut [u8], begins: usize, u: usize
     ensures { Span (bytes_from text.now from begins) begins (begins + u) image.old image.new }
 {
     for o in 0..u {
-        let at = from + 2 * o;
-        image[begins + o] = told_by(pair_of(text[at], text[at + 1]));
+        image[begins + o] = told_by(pair_of(text, from + 2 * o));
     }
 }
 
@@ -235,12 +208,12 @@ pub fn tell_bytes(text: &[u8], from: usize, image: &mut [u8], begins: usize, u: 
     requires { (from + 2 * u ≤ length text.now) × (begins + u ≤ length image.old) × (digits_at text.now from (2 * u) ≡ true) }
     ensures { Span (bytes_from text.now from begins) begins (begins + u) image.old image.new }
 {
-    let mut o = 0;
-    while 32 <= u - o {
-        tell_block(text, from + 2 * o, image, begins + o);
-        o += 32;
+    for block in 0..u / 32 {
+        let told = 32 * block;
+        tell_block(text, from + 2 * told, image, begins + told);
     }
-    tell_rest(text, from + 2 * o, image, begins + o, u - o);
+    let told = 32 * (u / 32);
+    tell_rest(text, from + 2 * told, image, begins + told, u - told);
 }
 
 // ---- a line read
@@ -249,12 +222,7 @@ fn head_right(text: &[u8], at: usize, target: u64, frame: u64) -> bool
     requires { at + 10 ≤ length text.now }
     ensures { result ≡ head_right text.now at target frame }
 {
-    for j in 0..10 {
-        if text[at + j] != head_char(target, frame, j) {
-            return false;
-        }
-    }
-    true
+    text[at..at + 10] == head(target, frame)[..]
 }
 
 // Whether the 2u characters from `from` on are digits; what they tell goes to the u bytes of the image from `begins` on. The loop has no way
@@ -263,17 +231,13 @@ fn read_unit(text: &[u8], from: usize, image: &mut [u8], begins: usize, u: usize
     requires { (from + 2 * u ≤ length text.now) × (begins + u ≤ length image.old) }
     ensures { (result ≡ digits_right text.now from u) × Span (bytes_from text.now from begins) begins (begins + u) image.old image.new }
 {
-    let mut o = 0;
-    let mut at = from;
     let mut worst: u8 = 0;
-    while o < u {
-        let a = digit_or_16(text[at]);
-        let b = digit_or_16(text[at + 1]);
-        worst = larger(larger(worst, a), b);
-        let x = begins + o;
-        image[x] = a % 16 * 16 + b % 16;
-        o += 1;
-        at += 2;
+    for o in 0..u {
+        let at = from + 2 * o;
+        let high = digit_or_16(text[at]);
+        let low = digit_or_16(text[at + 1]);
+        worst = worst.max(high).max(low);
+        image[begins + o] = high % 16 * 16 + low % 16;
     }
     worst < 16
 }
@@ -292,11 +256,6 @@ pub fn read_line(
     ensures { (result ≡ line_right text.now at target frame u) × Span (bytes_from text.now (at + 10) begins) begins (begins + u) image.old image.new }
 {
     let digits = read_unit(text, at + 10, image, begins, u);
-    if text[at + 10 + 2 * u] != 10 {
-        return false;
-    }
-    if !head_right(text, at, target, frame) {
-        return false;
-    }
-    digits
+    let ended = text[at + 10 + 2 * u] == b'\n';
+    ended && head_right(text, at, target, frame) && digits
 }

@@ -1,12 +1,13 @@
--- `hex_text::decimal_or` meets its contract: the tests cut the characters where the ten digits begin and end.
+-- `hex_text::decimal_or` meets its contract: the arms cut the characters where the ten digits begin and end.
+use native.Mathlib.Omega.{arith}
 use Rattle.lists.specs.Part.{within-before, within_in, within-after}
 use Rattle.hex_text.proofs.decimal_or.Goals as goal
 
-pub returns-then-c-lt48 : goal.returns-then-c-lt48
-returns-then-c-lt48 c = simp (within-before 48 10 _ c.if-c-lt48.true)
+pub returns-in-48-to-57 : goal.returns-in-48-to-57
+returns-in-48-to-57 c = simp (within_in 48 10 c.args.c (omega arith) (omega arith))
 
-pub returns-then-c-lt58 : goal.returns-then-c-lt58
-returns-then-c-lt58 c = simp (within_in 48 10 _ c.if-c-lt48.false c.if-c-lt58.true)
+pub returns-in_default : goal.returns-in_default
+returns-in_default c = simp (within-before 48 10 c.args.c (omega arith))
 
-pub returns : goal.returns
-returns c = simp (within-after 48 10 _ c.if-c-lt58.false)
+pub returns-in_default-2 : goal.returns-in_default-2
+returns-in_default-2 c = simp (within-after 48 10 c.args.c (omega arith))

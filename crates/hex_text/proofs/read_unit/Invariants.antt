@@ -1,4 +1,4 @@
-use Prim.Native.Nat.{◌+◌, ◌*◌, ◌-◌, ◌≤◌}
+use Prim.Native.Nat.{◌+◌}
 use mathlib.Core.Path.{◌≡◌}
 use lib.Dec.{ltb}
 use Rattle.lists.specs.Span.{Span}
@@ -6,7 +6,4 @@ use Rattle.hex_text.specs.Runs.{digits_right, bytes_from}
 use Rattle.hex_text.proofs.read_unit.Given as goal
 
 abbrev pub invariant-loop-o : goal.invariant-loop-o
-invariant-loop-o l = (l.o ≤ l.u) × (l.at ≡ l.from + 2 * l.o) × (ltb l.worst 16 ≡ digits_right l.text l.from l.o) × Span (bytes_from l.text l.from l.begins) l.begins (l.begins + l.o) l.initial.image l.image
-
-abbrev pub decreases-loop-o : goal.decreases-loop-o
-decreases-loop-o l = l.u - l.o
+invariant-loop-o l = (ltb l.worst 16 ≡ digits_right l.text l.from l.o) × Span (bytes_from l.text l.from l.begins) l.begins (l.begins + l.o) l.initial.image l.image

@@ -1,4 +1,4 @@
-use Prim.Native.Nat.{◌+◌, ◌-◌, ◌≤◌}
+use Prim.Native.Nat.{◌+◌, ◌≤◌}
 use Rattle.lists.specs.Span.{Span}
 use Rattle.hex_text.specs.Runs.{bytes_from}
 use Rattle.hex_text.proofs.tell_block.Given as goal

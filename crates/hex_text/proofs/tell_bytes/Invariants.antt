@@ -1,10 +1,7 @@
-use Prim.Native.Nat.{◌+◌, ◌-◌, ◌≤◌}
+use Prim.Native.Nat.{◌+◌, ◌*◌}
 use Rattle.lists.specs.Span.{Span}
 use Rattle.hex_text.specs.Runs.{bytes_from}
 use Rattle.hex_text.proofs.tell_bytes.Given as goal
 
-abbrev pub invariant-loop-o : goal.invariant-loop-o
-invariant-loop-o l = (l.o ≤ l.u) × Span (bytes_from l.text l.from l.begins) l.begins (l.begins + l.o) l.initial.image l.image
-
-abbrev pub decreases-loop-o : goal.decreases-loop-o
-decreases-loop-o l = l.u - l.o
+abbrev pub invariant-loop-block : goal.invariant-loop-block
+invariant-loop-block l = Span (bytes_from l.text l.from l.begins) l.begins (l.begins + 32 * l.block) l.initial.image l.image

@@ -1,11 +1,7 @@
 -- `hex_text::write_line` meets its contract: ten characters, the digits and the newline make the line.
-use mathlib.Core.Path.{refl, ◌∙◌}
-use lib.ListN.{length-set}
+use mathlib.Core.Path.{refl}
 use Rattle.hex_text.specs.RunLaws.{line-written}
 use Rattle.hex_text.proofs.write_line.Goals as goal
-
-pub shape_of-text : goal.shape_of-text
-shape_of-text c = length-set c.write_unit.new.text _ _ ∙ c.write_unit.ensures.len ∙ c.write_head.ensures.len
 
 pub returns : goal.returns
 returns c = let a = c.args in
