@@ -1,6 +1,6 @@
 -- The pass over one window, as the code makes it: what is asked for it, and what its turns and its ends show.
-use Rattle.std.specs.Prelude.{◌≡◌, true, false, List, ℕ, suc, ◌+◌, ◌*◌, ◌/◌, ◌%◌, ◌<◌, ◌≤◌, length, set, replicate}
-use Rattle.std.proofs.Common.{sym, ap, ap₂, ◌∙◌, le_of_suc-le-suc, mul-zero, mul-suc, mul-le-mul_left, mul-pos, add-one, arith, eq-eqb, ne_eqb}
+use Rattle.std.specs.Prelude.{◌≡◌, true, false, List, ◌++◌, ℕ, suc, ◌+◌, ◌-◌, ◌*◌, ◌/◌, ◌%◌, ◌<◌, ◌≤◌, length, set, drop, replicate, Option, Some, None}
+use Rattle.std.proofs.Common.{sym, ap, ap₂, ◌∙◌, le_of_suc-le-suc, mul-zero, mul-suc, mul-pos, length-drop, length-append, arith, eq-eqb, ne_eqb}
 use Rattle.std.proofs.Math.Path.{subst⁻¹}
 use Rattle.std.proofs.Math.Nat.{lt_of_mul-lt-mul_left}
 use Rattle.std.proofs.lemmas.List.{get_or-replicate, length-replicate}
@@ -19,7 +19,7 @@ use Rattle.proposal_check.specs.Checked.{entries_good}
 use Rattle.proposal_check.specs.Marks.{weight_of, mark_few, weight_some}
 use Rattle.proposal_check.specs.Windows.{in_window, window_good, rank_named, marked, Passed, windows_join}
 use Rattle.proposal_check.specs.Windows.{passed_begin, passed_end, passed_by, passed_in, outside_fails, entry_fails, mark_found, rank_small}
-use Rattle.proposal_check.specs.Entry.{rank_or3, rank_good, rank_bad, group_here_lem}
+use Rattle.proposal_check.specs.Entry.{IsEntry, entry_cut, rest_here, rank_if_good, rank_good, rank_bad, group_here_lem}
 
 -- a plan of whole entries, and window w of 65,536 groups, which has some group of the pool
 pub record Asked (y : Layout) (s : Shape) (R : Record) (groups : ℕ) (plan : List ℕ) (w : ℕ) : Type 0 where
@@ -31,48 +31,52 @@ pub record Asked (y : Layout) (s : Shape) (R : Record) (groups : ℕ) (plan : Li
   pub whole : entry_size y * entries y plan ≡ length plan
   pub begins : 65536 * w < groups
 
--- before the entry that begins at place `from` of the plan: the entries before it have passed
-pub record Passing (y : Layout) (R : Record) (plan : List ℕ) (w from : ℕ) (marks : List ℕ) : Type 0 where
+-- where so much of the plan is left, from an entry on: the entries before it have passed
+pub record Passing (y : Layout) (R : Record) (plan : List ℕ) (w : ℕ) (left marks : List ℕ) : Type 0 where
   pub done : ℕ
-  pub here : from ≡ entry_size y * done
+  pub here : left ≡ drop (entry_size y * done) plan
   pub passed : Passed y R plan 65536 w done marks
 
 module _ (y : Layout) (s : Shape) (R : Record) (groups : ℕ) (plan : List ℕ) (w : ℕ) (a : Asked y s R groups plan w) where
-  pub pass_begin : Passing y R plan w 0 (replicate 65536 0)
-  pass_begin =
+  pub pass_begin : (left : List ℕ) → left ≡ plan → Passing y R plan w left (replicate 65536 0)
+  pass_begin left e =
       record {
         done = 0;
-        here = sym (mul-zero (entry_size y));
+        here = e ∙ sym (ap (λ (n : ℕ). drop n plan) (mul-zero (entry_size y)));
         passed = passed_begin y R plan 65536 w (replicate 65536 0) (length-replicate {A = ℕ} 65536 0) (λ x h. get_or-replicate 65536 x 0 0 h);
       }
 
-  module _ (from : ℕ) (marks : List ℕ) (p : Passing y R plan w from marks) where
-    pub pass_end : length plan ≤ from → window_good y R plan 65536 w ≡ true
+  module _ (left marks : List ℕ) (p : Passing y R plan w left marks) where
+    left_long : length left ≡ length plan - entry_size y * p.done
+    left_long = ap length p.here ∙ length-drop (entry_size y * p.done) plan
+
+    pub pass_end : length left < entry_size y → window_good y R plan 65536 w ≡ true
     pass_end h = passed_end y R plan 65536 w p.done marks p.passed (le_of_suc-le-suc all_done)
       where
         all_done : entries y plan < suc p.done
-        all_done = lt_of_mul-lt-mul_left (entry_size y) {m = entries y plan} {n = suc p.done} (omega (arith, h, a.whole, p.here, mul-suc (entry_size y) p.done))
+        all_done = lt_of_mul-lt-mul_left (entry_size y) {m = entries y plan} {n = suc p.done} (omega (arith, h, a.whole, left_long, mul-suc (entry_size y) p.done))
 
-    module _ (more : from < length plan) where
+    module _ (entry rest : List ℕ) (cut : left ≡ entry ++ rest) (long : length entry ≡ entry_size y) where
       entry_lt : p.done < entries y plan
-      entry_lt = lt_of_mul-lt-mul_left (entry_size y) {m = p.done} {n = entries y plan} (omega (arith, more, a.whole, p.here))
+      entry_lt =
+          lt_of_mul-lt-mul_left (entry_size y) {m = p.done} {n = entries y plan}
+          (omega (arith, a.whole, left_long, ap length cut, length-append entry rest, long))
 
-      -- the entry is whole
-      pub entry_room : from + entry_size y ≤ length plan
-      entry_room = omega (arith, mul-le-mul_left (entry_size y) entry_lt, mul-suc (entry_size y) p.done, a.whole, p.here)
+      is_entry : IsEntry y plan p.done entry
+      is_entry = entry_cut y plan p.done left entry rest p.here cut long
 
-      next_here : from + entry_size y ≡ entry_size y * (p.done + 1)
-      next_here = omega (arith, p.here, mul-suc (entry_size y) p.done, ap (λ (x : ℕ). entry_size y * x) (add-one p.done))
+      next_here : rest ≡ drop (entry_size y * (p.done + 1)) plan
+      next_here = rest_here y plan p.done left entry rest p.here cut long
 
-      named : at plan from ≡ group_named y plan p.done
-      named = group_here_lem y R plan p.done from p.here
+      named : at entry 0 ≡ group_named y plan p.done
+      named = group_here_lem y R plan p.done entry is_entry
 
       -- an entry that names no group of the pool
-      pub pass_outside : groups ≤ at plan from → window_good y R plan 65536 w ≡ false
+      pub pass_outside : groups ≤ at entry 0 → window_good y R plan 65536 w ≡ false
       pass_outside l = outside_fails y R plan 65536 w p.done entry_lt (omega (arith, l, named, a.groups_are))
 
       -- one of another window
-      pub pass_by : at plan from < groups → (at plan from / 65536 ≡ w → ⊥) → Passing y R plan w (from + entry_size y) marks
+      pub pass_by : at entry 0 < groups → (at entry 0 / 65536 ≡ w → ⊥) → Passing y R plan w rest marks
       pass_by l out =
           record {
             done = p.done + 1;
@@ -82,41 +86,42 @@ module _ (y : Layout) (s : Shape) (R : Record) (groups : ℕ) (plan : List ℕ) 
           }
 
       -- one of this window, of which the code has worked out the rank
-      module _ (t : at plan from / 65536 ≡ w) (rank : ℕ) (told : (e : ℕ) → from ≡ entry_size y * e → rank ≡ rank_or3 y R plan e) where
+      module _ (t : at entry 0 / 65536 ≡ w) where
         inside : in_window y plan 65536 w p.done ≡ true
         inside = eq-eqb (group_named y plan p.done / 65536) w (ap (λ (g : ℕ). g / 65536) (sym named) ∙ t)
 
         -- it is not good
-        pub pass_bad : rank ≡ 3 → window_good y R plan 65536 w ≡ false
-        pass_bad e =
-            entry_fails y R plan 65536 w p.done entry_lt inside
-            (rank_bad y R a.valid a.good plan p.done rank (told p.done p.here) e)
+        pub pass_bad : (answer : Option ℕ) → answer ≡ None → ((list : List ℕ) (e : ℕ) → IsEntry y list e entry → answer ≡ rank_if_good y R list e)
+            → window_good y R plan 65536 w ≡ false
+        pass_bad answer none told =
+            entry_fails y R plan 65536 w p.done entry_lt inside (rank_bad y R plan p.done (sym none ∙ told plan p.done is_entry))
 
-        module _ (ne : rank ≡ 3 → ⊥) (weight : ℕ) (is : weight ≡ weight_of rank) where
+        module _ (rank : ℕ) (answer : Option ℕ) (some-rank : answer ≡ Some rank)
+            (told : (list : List ℕ) (e : ℕ) → IsEntry y list e entry → answer ≡ rank_if_good y R list e) (weight : ℕ) (is : weight ≡ weight_of rank) where
           good : (entry_good y R plan p.done ≡ true) × (rank ≡ rank_named y R plan p.done)
-          good = rank_good y R plan p.done rank (told p.done p.here) ne
+          good = rank_good y R plan p.done rank (sym some-rank ∙ told plan p.done is_entry)
 
           small : rank < 3
           small = omega (arith, good.1, rank_small y R plan 65536 w p.done marks p.passed a.valid a.good (omega arith) inside good.0)
 
           -- a bit of a mark, which has room for it
-          pub weight_fits : (0 < weight) × (at marks (at plan from % 65536) + weight ≤ 11)
+          pub weight_fits : (0 < weight) × (at marks (at entry 0 % 65536) + weight ≤ 11)
           weight_fits =
               let some = weight_some rank small in
-              let mark = p.passed.marks_are (at plan from % 65536) (omega arith) in
-              (omega (arith, is, some.0), omega (arith, is, some.1, mark, mark_few (marked y R plan p.done (65536 * w + at plan from % 65536))))
+              let mark = p.passed.marks_are (at entry 0 % 65536) (omega arith) in
+              (omega (arith, is, some.0), omega (arith, is, some.1, mark, mark_few (marked y R plan p.done (65536 * w + at entry 0 % 65536))))
 
-          same_bit : (at marks (at plan from % 65536) / weight) % 2 ≡ (at marks (group_named y plan p.done % 65536) / weight_of (rank_named y R plan p.done)) % 2
+          same_bit : (at marks (at entry 0 % 65536) / weight) % 2 ≡ (at marks (group_named y plan p.done % 65536) / weight_of (rank_named y R plan p.done)) % 2
           same_bit = ap₂ (λ (g x : ℕ). (at marks (g % 65536) / x) % 2) named (is ∙ ap weight_of good.1)
 
           -- its content is named before
-          pub pass_twice : (at marks (at plan from % 65536) / weight) % 2 ≡ 1 → window_good y R plan 65536 w ≡ false
+          pub pass_twice : (at marks (at entry 0 % 65536) / weight) % 2 ≡ 1 → window_good y R plan 65536 w ≡ false
           pass_twice q =
               mark_found y R plan 65536 w p.done marks p.passed a.valid a.good (omega arith) inside good.0 entry_lt (sym same_bit ∙ q)
 
           -- or not, and is now
-          pub pass_in : ((at marks (at plan from % 65536) / weight) % 2 ≡ 1 → ⊥)
-              → Passing y R plan w (from + entry_size y) (set marks (at plan from % 65536) (at marks (at plan from % 65536) + weight))
+          pub pass_in : ((at marks (at entry 0 % 65536) / weight) % 2 ≡ 1 → ⊥)
+              → Passing y R plan w rest (set marks (at entry 0 % 65536) (at marks (at entry 0 % 65536) + weight))
           pass_in q =
               record {
                 done = p.done + 1;
@@ -126,7 +131,7 @@ module _ (y : Layout) (s : Shape) (R : Record) (groups : ℕ) (plan : List ℕ) 
                     (passed_in y R plan 65536 w p.done marks p.passed a.valid a.good (omega arith) inside good.0 (λ z. q (same_bit ∙ z)));
               }
             where
-              same_marks : set marks (at plan from % 65536) (at marks (at plan from % 65536) + weight)
+              same_marks : set marks (at entry 0 % 65536) (at marks (at entry 0 % 65536) + weight)
                   ≡ set marks (group_named y plan p.done % 65536) (at marks (group_named y plan p.done % 65536) + weight_of (rank_named y R plan p.done))
               same_marks = ap₂ (λ (g x : ℕ). set marks (g % 65536) (at marks (g % 65536) + x)) named (is ∙ ap weight_of good.1)
 

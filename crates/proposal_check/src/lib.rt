@@ -2,7 +2,7 @@
 // else named. No scratch is lent for it and there is no heap, so that nothing is named twice is seen window by window, with local marks. Inner.
 #![tactic(auto)]
 
-ghost use Rattle.std.specs.Prelude.{◌≡◌, ℕ, ◌+◌, ◌*◌, ◌≤◌, length, get_or};
+ghost use Rattle.std.specs.Prelude.{◌≡◌, List, ℕ, ◌*◌, ◌≤◌, length, get_or};
 ghost use Rattle.lists.specs.Search.{all};
 ghost use Rattle.numbers.specs.Layouts.{Valid};
 ghost use Rattle.homes.specs.Records.{Good};
@@ -11,24 +11,21 @@ ghost use Rattle.proposal.specs.Plans.{entry_size, entries, plan_good};
 ghost use Rattle.proposal_check.specs.Checked.{entries_good};
 ghost use Rattle.proposal_check.specs.Marks.{weight_of};
 ghost use Rattle.proposal_check.specs.Windows.{window_good};
-ghost use Rattle.proposal_check.specs.Entry.{source_good_from, rank_or3};
+ghost use Rattle.proposal_check.specs.Entry.{source_good_by, IsEntry, rank_if_good};
 ghost use Rattle.proposal_check.specs.Steps.{Asked};
 
 use homes::Record;
 use numbers::{Layout, Shape};
 
-// The sources that begin at plan[at], n of them: each below m, not missing, and none of those before it.
-fn sources_good(missing: [bool; 19], m: usize, plan: &[u64], at: usize, n: usize) -> bool
-    requires { (m ≤ 19) × (at + n ≤ length plan.now) }
-    ensures { result ≡ all (source_good_from missing m plan.now at) n }
+// The sources of an entry: each below m, not missing, and none of those before it.
+fn sources_good(missing: [bool; 19], m: usize, sources: &[u64]) -> bool
+    requires { m ≤ 19 }
+    ensures { result ≡ all (source_good_by missing m sources.now) (length sources.now) }
 {
     let mut taken = missing;
-    for j in 0..n {
-        let x = plan[at + j] as usize;
-        if m <= x {
-            return false;
-        }
-        if taken[x] {
+    for &source in sources {
+        let x = source as usize;
+        if m <= x || taken[x] {
             return false;
         }
         taken[x] = true;
@@ -36,41 +33,38 @@ fn sources_good(missing: [bool; 19], m: usize, plan: &[u64], at: usize, n: usize
     true
 }
 
-// The rank, among the missing contents of its group, of what the entry at plan[at] names; 3 where the entry is not good. The permutation of the
-// group's tile is in hand.
-fn entry_rank(y: Layout, s: Shape, r: Record, to: &[u8; 64], plan: &[u64], at: usize) -> usize
-    requires { Good y r × InTile y s to.now (get_or plan.now at 0) × (at + entry_size y ≤ length plan.now) }
-    ensures { (e : ℕ) → at ≡ entry_size y * e → result ≡ rank_or3 y r plan.now e }
+// The rank, among the missing contents of its group, of what an entry names; none where the entry is not good. The permutation of the group's tile is
+// in hand.
+fn entry_rank(y: Layout, s: Shape, r: Record, to: &[u8; 64], entry: &[u64]) -> Option<usize>
+    requires { Good y r × InTile y s to.now (get_or entry.now 0 0) × (length entry.now ≡ entry_size y) }
+    ensures { (plan : List ℕ) (e : ℕ) → IsEntry y plan e entry.now → result ≡ rank_if_good y r plan e }
 {
-    let n = y.n as usize;
     let m = (y.n + y.k) as usize;
-    let stand = survey::stand_of(y, s, r, to, plan[at]);
+    let stand = survey::stand_of(y, s, r, to, entry[0]);
     let missing = stand.missing;
-    let c = plan[at + 1] as usize;
-    if m <= c {
-        return 3;
+    let c = entry[1] as usize;
+    if m <= c || !missing[c] {
+        return None;
     }
-    if !missing[c] {
-        return 3;
-    }
-    if !sources_good(missing, m, plan, at + 2, n) {
-        return 3;
+    if !sources_good(missing, m, &entry[2..]) {
+        return None;
     }
     let below = parity::missing_below(missing, c);
-    below.count
+    Some(below.count)
 }
 
 // The weight of a rank in a group's mark.
+#[tactic(auto, unfolding(crate::specs::Marks::weight_of))]
 fn weight(rank: usize) -> u8
     ensures { result ≡ weight_of rank }
 {
     if rank == 0 {
-        return 1;
+        1
+    } else if rank == 1 {
+        2
+    } else {
+        4
     }
-    if rank == 1 {
-        return 2;
-    }
-    4
 }
 
 // One pass over the plan, for the groups 65,536·w .. 65,536·(w + 1): every entry names a group of the pool, and those of the window are good and name
@@ -79,15 +73,11 @@ fn window_good(y: Layout, s: Shape, r: Record, groups: u64, plan: &[u64], w: u64
     requires { Asked y s r groups plan.now w }
     ensures { result ≡ window_good y r plan.now 65536 w }
 {
-    let size = y.n as usize + 2;
-    let len = plan.len();
     let mut marks = [0u8; 65536];
-    let mut tile = (65536 * w) / s.c;
+    let mut tile = 65536 * w / s.c;
     let mut to = place::permutation(y, tile);
-    let mut at: usize = 0;
-    while at < len {
-        let next = at + size;
-        let g = plan[at];
+    for entry in plan.chunks_exact(y.n as usize + 2) {
+        let g = entry[0];
         if groups <= g {
             return false;
         }
@@ -95,10 +85,9 @@ fn window_good(y: Layout, s: Shape, r: Record, groups: u64, plan: &[u64], w: u64
             let here = g / s.c;
             to = survey::tile_to(y, tile, to, here);
             tile = here;
-            let rank = entry_rank(y, s, r, &to, plan, at);
-            if rank == 3 {
+            let Some(rank) = entry_rank(y, s, r, &to, entry) else {
                 return false;
-            }
+            };
             let h = (g % 65536) as usize;
             let bit = weight(rank);
             if (marks[h] / bit) % 2 == 1 {
@@ -106,7 +95,6 @@ fn window_good(y: Layout, s: Shape, r: Record, groups: u64, plan: &[u64], w: u64
             }
             marks[h] += bit;
         }
-        at = next;
     }
     true
 }
@@ -119,12 +107,10 @@ fn windows_good(y: Layout, r: Record, plan: &[u64]) -> bool
     let s = numbers::shape_of(y);
     let numbers = numbers::numbers_of(y);
     let groups = numbers.groups;
-    let mut w: u64 = 0;
-    while 65536 * w < groups {
+    for w in 0..groups.div_ceil(65536) {
         if !window_good(y, s, r, groups, plan, w) {
             return false;
         }
-        w += 1;
     }
     true
 }
