@@ -8,6 +8,7 @@ pub mod Those
 pub mod Passing
 pub mod Digits
 pub mod Refusal
+pub mod Numbered
 pub mod Span
 pub mod Put
 pub mod Part
