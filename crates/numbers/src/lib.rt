@@ -2,11 +2,14 @@
 #![tactic(auto)]
 
 ghost use Rattle.std.specs.Prelude.{◌≡◌, ◌≤◌};
+ghost use Rattle.lists.specs.Numbered.{answer_number};
 ghost use Rattle.numbers.specs.Gcd.{gcd as gcdOf};
 ghost use Rattle.numbers.specs.Layouts.{Valid, all_groups, all_contents};
 ghost use Rattle.numbers.specs.Refused.{layout_refusal, no_layout};
 ghost use Rattle.numbers.specs.Answers.{Shaped, Numbered};
 ghost use Rattle.numbers.specs.Editions.{other_edition};
+
+use lists::Refusal;
 
 // Document 01's six numbers: N data units and K parity units a group (with K spares), P targets,
 // U bytes a unit, T tiles, and the cookie that the permutations start from. And document 02's
@@ -53,45 +56,51 @@ pub fn gcd(a: u64, b: u64) -> u64
     if b == 0 { a } else { gcd(b, a % b) }
 }
 
-// 1 where a number is out of bounds, else 0. N and K are tested before W is worked out, so that
-// nothing wraps.
+// Refused where a number is out of its bounds. N and K are tested before W is worked out, so that nothing wraps.
+pub fn check(y: Layout) -> Result<(), Refusal>
+    ensures { answer_number result ≡ layout_refusal y }
+{
+    if y.n < 1 {
+        return Err(Refusal::Layout);
+    }
+    if 16 < y.n {
+        return Err(Refusal::Layout);
+    }
+    if 3 < y.k {
+        return Err(Refusal::Layout);
+    }
+    if y.p < y.n + 2 * y.k {
+        return Err(Refusal::Layout);
+    }
+    if 64 < y.p {
+        return Err(Refusal::Layout);
+    }
+    if y.u < 1 {
+        return Err(Refusal::Layout);
+    }
+    if 4096 < y.u {
+        return Err(Refusal::Layout);
+    }
+    if y.t < 1 {
+        return Err(Refusal::Layout);
+    }
+    if 65536 < y.t {
+        return Err(Refusal::Layout);
+    }
+    if y.edition < 1 {
+        return Err(Refusal::Layout);
+    }
+    if 2 < y.edition {
+        return Err(Refusal::Layout);
+    }
+    Ok(())
+}
+
+// The number of that refusal, 0 where there is none.
 pub fn refusal(y: Layout) -> u64
     ensures { result ≡ layout_refusal y }
 {
-    if y.n < 1 {
-        return 1;
-    }
-    if 16 < y.n {
-        return 1;
-    }
-    if 3 < y.k {
-        return 1;
-    }
-    if y.p < y.n + 2 * y.k {
-        return 1;
-    }
-    if 64 < y.p {
-        return 1;
-    }
-    if y.u < 1 {
-        return 1;
-    }
-    if 4096 < y.u {
-        return 1;
-    }
-    if y.t < 1 {
-        return 1;
-    }
-    if 65536 < y.t {
-        return 1;
-    }
-    if y.edition < 1 {
-        return 1;
-    }
-    if 2 < y.edition {
-        return 1;
-    }
-    0
+    lists::answer_number(check(y))
 }
 
 // Zeros: no layout that is within the bounds.

@@ -1,8 +1,8 @@
--- `numbers::refusal` meets its contract: each early return contradicts one bound, and the last has them all.
+-- `numbers::check` meets its contract: each early return contradicts one bound, and the last has them all.
 use mathlib.Core.Path.{sym}
 use native.Mathlib.Omega.{arith}
 use Rattle.numbers.specs.Refused.{accepts, refuses}
-use Rattle.numbers.proofs.refusal.Goals as goal
+use Rattle.numbers.proofs.check.Goals as goal
 
 pub returns-then-y-lt1 : goal.returns-then-y-lt1
 returns-then-y-lt1 c = sym (refuses _ (λ v. omega arith))
