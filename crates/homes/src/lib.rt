@@ -5,6 +5,7 @@ ghost use Rattle.std.specs.Prelude.{◌≡◌, ℕ, ◌+◌, ◌<◌, ◌≤◌,
 ghost use Rattle.lists.specs.Pick.{pick};
 ghost use Rattle.lists.specs.Search.{all, lowest};
 ghost use Rattle.lists.specs.Tabulate.{at};
+ghost use Rattle.lists.specs.Numbered.{answer_number};
 ghost use Rattle.numbers.specs.Layouts.{Valid, all_contents};
 ghost use Rattle.homes.specs.Listed.{listed};
 ghost use Rattle.homes.specs.Once.{place_in};
@@ -13,6 +14,7 @@ ghost use Rattle.homes.specs.Records.{entry_good, failures_refusal, record_refus
 ghost use Rattle.homes.specs.Dropping.{skip, without};
 ghost use Rattle.homes.specs.Standing.{Units, HomesAre, MissingAre, Standing};
 
+use lists::Refusal;
 use numbers::Layout;
 
 // The targets that have failed, in order: the first k entries, of which the first q are repaired.
@@ -59,30 +61,33 @@ fn entries_good(y: Layout, r: Record) -> bool
     true
 }
 
-// 3 where the list is bad, else 0. k and q are tested before any entry is read.
-fn failures_refusal(y: Layout, r: Record) -> u64
+// Refused where the list is bad. k and q are tested before any entry is read.
+fn check_failures(y: Layout, r: Record) -> Result<(), Refusal>
     requires { Valid y }
-    ensures { result ≡ failures_refusal y r }
+    ensures { answer_number result ≡ failures_refusal y r }
 {
     if y.k < r.k {
-        return 3;
+        return Err(Refusal::Record);
     }
     if r.k < r.q {
-        return 3;
+        return Err(Refusal::Record);
     }
-    if entries_good(y, r) { 0 } else { 3 }
+    if !entries_good(y, r) {
+        return Err(Refusal::Record);
+    }
+    Ok(())
 }
 
-// 3 where the record is bad, else 0: the list, then the count, which may be as high as the contents of all groups.
-pub fn record_refusal(y: Layout, r: Record, contents: u64) -> u64
+// Refused where the record is bad: the list, then the count, which may be as high as the contents of all groups.
+pub fn check_record(y: Layout, r: Record, contents: u64) -> Result<(), Refusal>
     requires { Valid y × (contents ≡ all_contents y) }
-    ensures { result ≡ record_refusal y r }
+    ensures { answer_number result ≡ record_refusal y r }
 {
-    let refusal = failures_refusal(y, r);
-    if refusal != 0 {
-        return refusal;
+    check_failures(y, r)?;
+    if contents < r.waiting {
+        return Err(Refusal::Record);
     }
-    if contents < r.waiting { 3 } else { 0 }
+    Ok(())
 }
 
 // The place of target t among the first k entries; k where it is not there.

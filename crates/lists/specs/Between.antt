@@ -1,5 +1,5 @@
 -- Numbers from lo on and below hi.
-use Rattle.std.specs.Prelude.{◌≡◌, ◌⊎◌, Bool, true, false, ℕ, ◌+◌, ◌-◌, ◌*◌, ◌<◌, ◌≤◌}
+use Rattle.std.specs.Prelude.{◌≡◌, Bool, true, false, ℕ, ◌+◌, ◌-◌, ◌*◌, ◌<◌, ◌≤◌}
 use Rattle.std.proofs.Common.{⊎_elim, mul-le-mul_left, arith}
 use Rattle.lists.specs.Pick.{either_way, below_or_not}
 use Rattle.lists.specs.Part.{within, within_in, within-before, within-after, within-true}

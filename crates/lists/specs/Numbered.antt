@@ -1,5 +1,5 @@
 -- The numbers by which the documents and C know the refusals.
-use Rattle.std.specs.Prelude.{◌≡◌, refl, ℕ, suc, Result, Ok, Err}
+use Rattle.std.specs.Prelude.{ℕ, Result, Ok, Err}
 use Rattle.lists.specs.declared.Refusal.{Refusal}
 use Rattle.lists.specs.declared.Refusal.TheVariants.{Layout, ImageLength, Record, Outside, BufferLength, FailedAlready, Dud, TooManyMissing, BadCatalogue, Full, NotThere, WrongLine, BadTrace, BadEvent, BadPlan, NotRepaired, UnknownEdition}
 

@@ -15,7 +15,7 @@ use lists::Refusal;
 // U bytes a unit, T tiles, and the cookie that the permutations start from. And document 02's
 // edition of the permutations, 1 or 2: document 01's are edition 1.
 #[repr(C)]
-#[derive(Clone, Copy)]
+#[derive(Clone, Copy, Debug, Default, PartialEq, Eq)]
 pub struct Layout {
     pub n: u64,
     pub k: u64,
@@ -27,7 +27,7 @@ pub struct Layout {
 }
 
 // W, B, L and C.
-#[derive(Clone, Copy)]
+#[derive(Clone, Copy, Debug, Default, PartialEq, Eq)]
 pub struct Shape {
     pub w: u64,
     pub b: u64,
@@ -37,7 +37,7 @@ pub struct Shape {
 
 // All the numbers that follow from a layout.
 #[repr(C)]
-#[derive(Clone, Copy)]
+#[derive(Clone, Copy, Debug, Default, PartialEq, Eq)]
 pub struct Numbers {
     pub w: u64,
     pub b: u64,
@@ -107,15 +107,7 @@ pub fn refusal(y: Layout) -> u64
 pub fn no_layout() -> Layout
     ensures { result ≡ no_layout }
 {
-    Layout {
-        n: 0,
-        k: 0,
-        p: 0,
-        u: 0,
-        t: 0,
-        cookie: 0,
-        edition: 0,
-    }
+    Layout::default()
 }
 
 pub fn shape_of(y: Layout) -> Shape
@@ -136,22 +128,16 @@ pub fn numbers_of(y: Layout) -> Numbers
     requires { Valid y }
     ensures { Numbered y result }
 {
-    let s = shape_of(y);
-    let l = s.l;
-    let c = s.c;
-    let n = y.n;
-    let p = y.p;
-    let u = y.u;
-    let t = y.t;
+    let Shape { w, b, l, c } = shape_of(y);
     Numbers {
-        w: s.w,
-        b: s.b,
+        w,
+        b,
         l,
         c,
-        frames: l * t,
-        groups: c * t,
-        capacity: t * c * n * u,
-        image: p * l * t * u,
+        frames: l * y.t,
+        groups: c * y.t,
+        capacity: y.t * c * y.n * y.u,
+        image: y.p * l * y.t * y.u,
     }
 }
 
@@ -169,12 +155,7 @@ pub fn other_edition(y: Layout) -> Layout
     ensures { result ≡ other_edition y }
 {
     Layout {
-        n: y.n,
-        k: y.k,
-        p: y.p,
-        u: y.u,
-        t: y.t,
-        cookie: y.cookie,
         edition: 3 - y.edition,
+        ..y
     }
 }

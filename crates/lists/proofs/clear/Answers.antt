@@ -1,5 +1,5 @@
 -- `lists::clear` meets its contract: what is filled with one value has it at every place.
-use Rattle.std.proofs.Common.{◌∙◌, length, sym}
+use Rattle.std.proofs.Common.{◌∙◌, length}
 use Rattle.std.proofs.lemmas.List.{get_or-replicate, length-replicate}
 use Rattle.lists.specs.Tabulate.{tabulated}
 use Rattle.lists.proofs.clear.Goals as goal

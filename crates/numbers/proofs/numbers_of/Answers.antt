@@ -5,13 +5,9 @@ use Prim.Native.Nat.{◌*◌}
 use Rattle.numbers.specs.declared.Layout.{Layout}
 use Rattle.numbers.specs.declared.Shape.{Shape}
 use Rattle.numbers.specs.declared.Numbers.{Numbers}
-use Rattle.numbers.specs.Shapes.{Products, products}
+use Rattle.numbers.specs.Shapes.{products}
 use Rattle.numbers.specs.Answers.{Numbered, numbered, numbers_of, shape_of}
 use Rattle.numbers.proofs.numbers_of.Goals as goal
-
-fit : (c : goal.After-shape_of-s) → Products c.args.y c.shape_of-s.result.l c.shape_of-s.result.c
-fit c =
-    products c.args.y c.requires c.shape_of-s.result.l c.shape_of-s.result.c c.shape_of-s.ensures.l_few c.shape_of-s.ensures.c-few
 
 abbrev built : Layout → Shape → Numbers
 built y s =
@@ -27,29 +23,29 @@ built y s =
     }
 
 pub overflow_mul-result : goal.overflow_mul-result
-overflow_mul-result c = omega (arith, fit c)
+overflow_mul-result c = omega (arith, products c.args.y c.requires _ _ c.shape_of-w.ensures.l_few c.shape_of-w.ensures.c-few)
 
 pub overflow_mul-result-2 : goal.overflow_mul-result-2
-overflow_mul-result-2 c = omega (arith, fit c)
+overflow_mul-result-2 c = omega (arith, products c.args.y c.requires _ _ c.shape_of-w.ensures.l_few c.shape_of-w.ensures.c-few)
 
 pub overflow_mul-result-3 : goal.overflow_mul-result-3
-overflow_mul-result-3 c = omega (arith, fit c)
+overflow_mul-result-3 c = omega (arith, products c.args.y c.requires _ _ c.shape_of-w.ensures.l_few c.shape_of-w.ensures.c-few)
 
 pub overflow_mul-result-4 : goal.overflow_mul-result-4
-overflow_mul-result-4 c = omega (arith, fit c)
+overflow_mul-result-4 c = omega (arith, products c.args.y c.requires _ _ c.shape_of-w.ensures.l_few c.shape_of-w.ensures.c-few)
 
 pub overflow_mul-result-5 : goal.overflow_mul-result-5
-overflow_mul-result-5 c = omega (arith, fit c)
+overflow_mul-result-5 c = omega (arith, products c.args.y c.requires _ _ c.shape_of-w.ensures.l_few c.shape_of-w.ensures.c-few)
 
 pub overflow_mul-result-6 : goal.overflow_mul-result-6
-overflow_mul-result-6 c = omega (arith, fit c)
+overflow_mul-result-6 c = omega (arith, products c.args.y c.requires _ _ c.shape_of-w.ensures.l_few c.shape_of-w.ensures.c-few)
 
 pub overflow_mul-result-7 : goal.overflow_mul-result-7
-overflow_mul-result-7 c = omega (arith, fit c)
+overflow_mul-result-7 c = omega (arith, products c.args.y c.requires _ _ c.shape_of-w.ensures.l_few c.shape_of-w.ensures.c-few)
 
 pub overflow_mul-result-8 : goal.overflow_mul-result-8
-overflow_mul-result-8 c = omega (arith, fit c)
+overflow_mul-result-8 c = omega (arith, products c.args.y c.requires _ _ c.shape_of-w.ensures.l_few c.shape_of-w.ensures.c-few)
 
 pub returns : goal.returns
 unfolding numbers_of shape_of
-returns c = subst⁻¹ (λ (s : Shape). Numbered c.args.y (built c.args.y s)) c.shape_of-s.ensures.is (numbered c.args.y c.requires)
+returns c = subst⁻¹ (λ (s : Shape). Numbered c.args.y (built c.args.y s)) c.shape_of-w.ensures.is (numbered c.args.y c.requires)
