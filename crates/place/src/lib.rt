@@ -35,18 +35,15 @@ pub struct Unit {
 }
 
 // The cell of unit u of group g.
+#[tactic(auto, using(crate::specs::Asked::cell_fits), unfolding(crate::specs::Places::cell_of, crate::specs::Units::frame_of, numbers::specs::Answers::shape_of))]
 pub fn cell_of(y: Layout, s: Shape, g: u64, u: u64) -> Cell
     requires { Valid y × Shaped y s × (g < all_groups y) × (u < width y) }
     ensures { result ≡ cell_of y g u }
 {
-    let p = y.p;
-    let w = s.w;
-    let l = s.l;
-    let c = s.c;
-    let x = w * (g % c) + u;
+    let x = s.w * (g % s.c) + u;
     Cell {
-        frame: l * (g / c) + x / p,
-        column: x % p,
+        frame: s.l * (g / s.c) + x / y.p,
+        column: x % y.p,
     }
 }
 
@@ -55,21 +52,18 @@ pub fn next_cell(y: Layout, a: Cell) -> Cell
     requires { Valid y × (a.frame < frames y) × (a.column < y.p) }
     ensures { (g u : ℕ) → a ≡ cell_of y g u → result ≡ cell_of y g (u + 1) }
 {
-    let frame = a.frame;
     let column = a.column + 1;
     if column == y.p {
-        return Cell {
-            frame: frame + 1,
+        Cell {
+            frame: a.frame + 1,
             column: 0,
-        };
+        }
+    } else {
+        Cell {
+            frame: a.frame,
+            column,
+        }
     }
-    Cell { frame, column }
-}
-
-fn wide(x: u8) -> u64
-    ensures { result ≡ x }
-{
-    x as u64
 }
 
 // The place at a cell, by the permutation of its tile.
@@ -77,24 +71,22 @@ pub fn place_at(to: &[u8; 64], a: Cell) -> Place
     requires { a.column < 64 }
     ensures { (result.frame ≡ a.frame) × (result.target ≡ at to.now a.column) }
 {
-    let column = a.column as usize;
     Place {
         frame: a.frame,
-        target: wide(to[column]),
+        target: u64::from(to[a.column as usize]),
     }
 }
 
 // The unit in a column of a row of a tile.
+#[tactic(auto, using(crate::specs::Asked::row_fits), unfolding(crate::specs::Places::unit_in_row, numbers::specs::Answers::shape_of))]
 pub fn unit_at(y: Layout, s: Shape, tile: u64, row: u64, column: u64) -> Unit
     requires { Valid y × Shaped y s × (tile < y.t) × (row < s.l) × (column < y.p) }
     ensures { result ≡ unit_in_row y tile row column }
 {
-    let w = s.w;
-    let c = s.c;
     let x = y.p * row + column;
     Unit {
-        group: c * tile + x / w,
-        unit: x % w,
+        group: s.c * tile + x / s.w,
+        unit: x % s.w,
     }
 }
 
@@ -103,12 +95,12 @@ pub fn unit_in(y: Layout, s: Shape, from: &[u8; 64], r: u64, t: u64) -> Unit
     requires { Holding y s from.now r t }
     ensures { result ≡ unit_of y r t }
 {
-    let l = s.l;
-    let target = t as usize;
-    unit_at(y, s, r / l, r % l, from[target] as u64)
+    let column = u64::from(from[t as usize]);
+    unit_at(y, s, r / s.l, r % s.l, column)
 }
 
 // The target of each column of a tile. Whoever needs a tile's permutation has it from here, or from `inverse`.
+#[tactic(auto, unfolding(crate::specs::Places::tile_permutation))]
 pub fn permutation(y: Layout, tile: u64) -> [u8; 64]
     requires { Valid y }
     ensures { result ≡ tile_permutation y tile }
@@ -117,6 +109,7 @@ pub fn permutation(y: Layout, tile: u64) -> [u8; 64]
 }
 
 // The column of each target of a tile.
+#[tactic(auto, unfolding(crate::specs::Places::tile_permutation))]
 pub fn inverse(y: Layout, tile: u64) -> [u8; 64]
     requires { Valid y }
     ensures { result ≡ inverse_of (tile_permutation y tile) }
@@ -131,8 +124,7 @@ pub fn place_of(y: Layout, s: Shape, g: u64, u: u64) -> Place
 {
     let a = cell_of(y, s, g, u);
     let tile = g / s.c;
-    let to = permutation(y, tile);
-    place_at(&to, a)
+    place_at(&permutation(y, tile), a)
 }
 
 // The unit in frame r of target t, working out the inverse too.
@@ -140,19 +132,14 @@ pub fn unit_of(y: Layout, s: Shape, r: u64, t: u64) -> Unit
     requires { Valid y × Shaped y s × (r < frames y) × (t < y.p) }
     ensures { result ≡ unit_of y r t }
 {
-    let from = inverse(y, r / s.l);
-    unit_in(y, s, &from, r, t)
+    unit_in(y, s, &inverse(y, r / s.l), r, t)
 }
 
 // The byte of the image that is byte o of a place.
+#[tactic(auto, using(crate::specs::Asked::spot_fits), unfolding(crate::specs::Bytes::spot_of))]
 pub fn spot_of(y: Layout, s: Shape, a: Place, o: u64) -> u64
     requires { Valid y × Shaped y s × (a.target < y.p) × (a.frame < frames y) × (o < y.u) }
     ensures { (result ≡ spot_of y a o) × (result < image_length y) }
 {
-    let l = s.l;
-    let t = y.t;
-    let u = y.u;
-    let target = a.target;
-    let frame = a.frame;
-    target * (l * t * u) + frame * u + o
+    a.target * (s.l * y.t * y.u) + a.frame * y.u + o
 }

@@ -12,6 +12,6 @@ pub returns-then-column-y : goal.returns-then-column-y
 returns-then-column-y c g u e = let a = c.args in
     next_cell a.y c.requires.0 g u a.a _ e (omega arith) (omega (arith, c.if-column-y.true, mul-suc a.y.p a.a.frame))
 
-pub returns : goal.returns
-returns c g u e = let a = c.args in
+pub returns-else-column-y : goal.returns-else-column-y
+returns-else-column-y c g u e = let a = c.args in
     next_cell a.y c.requires.0 g u a.a _ e (omega (arith, c.if-column-y.false)) (omega arith)

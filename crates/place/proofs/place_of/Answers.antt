@@ -12,4 +12,4 @@ place_at-requires c = let b = c.before.before.before.before in
 
 pub returns : goal.returns
 returns c = let b = c.before.before.before.before.before in
-    place_at b.args.y b.requires.0 b.args.s b.requires.1 _ b.args.g b.args.u _ _ c.permutation-to.ensures c.cell_of-a.ensures c.place_at.ensures
+    place_at b.args.y b.requires.0 b.args.s b.requires.1 _ b.args.g b.args.u _ _ c.permutation.ensures c.cell_of-a.ensures c.place_at.ensures

@@ -1,7 +1,0 @@
--- `place::permutation` meets its contract: what the name stands for.
-use Rattle.place.specs.Places.{tile_permutation}
-use Rattle.place.proofs.permutation.Goals as goal
-
-pub returns : goal.returns
-unfolding tile_permutation
-returns c = c.permutation.ensures
