@@ -90,7 +90,10 @@ module _ (y : Layout) (R : Record) (img line old : List ℕ) where
   pub read_refused : {offset size n len : ℕ} {new : List ℕ} → offset ≡ number_at line 3 16 → size ≡ number_at line 20 16
       → n ≡ range_refusal y R (length img) offset size → (n ≡ 0 → ⊥) → Said (printed n []) old len new → Said read_text old len new
   read_refused {n = n} eo es e f s =
-      said_as (printed-refused n _ f ∙ (λ i. printed ((e ∙ (λ j. range_refusal y R (length img) (eo j) (es j))) i) (32 ∷ hex_of (read_out y R img (number_at line 3 16) (number_at line 20 16))))) s
+      said_as
+      (printed-refused n _ f
+      ∙ (λ i. printed ((e ∙ (λ j. range_refusal y R (length img) (eo j) (es j))) i) (32 ∷ hex_of (read_out y R img (number_at line 3 16) (number_at line 20 16)))))
+      s
 
   pub read_said : {offset size n len : ℕ} {new : List ℕ} → offset ≡ number_at line 3 16 → size ≡ number_at line 20 16
       → n ≡ range_refusal y R (length img) offset size → n ≡ 0 → Said (printed 0 (32 ∷ hex_of (read_out y R img offset size))) old len new → Said read_text old len new

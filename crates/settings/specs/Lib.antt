@@ -1,6 +1,7 @@
 pub mod Settings
 pub mod Calls
 pub mod Scan
+pub mod Version
 pub mod LineLaws
 pub mod ScanLaws
 pub mod CallLaws

@@ -3,47 +3,71 @@
 
 ghost use Rattle.std.specs.Prelude.{◌≡◌, true, eqb};
 ghost use Rattle.lists.specs.Pick.{pick};
-ghost use Rattle.settings.specs.Settings.{is_version, edition_of, setting_layout, has_form, is_setting};
-ghost use Rattle.settings.specs.Calls.{add_refusal, Adds, settings_of};
-ghost use Rattle.settings.specs.Scan.{setting_widths, Scans, refused_with};
+ghost use Rattle.settings.specs.Settings.{edition_of, setting_layout, has_form, is_setting};
+ghost use Rattle.settings.specs.Calls.{Adds, settings_of};
+ghost use Rattle.settings.specs.Scan.{refused_with, Scanned};
+ghost use Rattle.settings.specs.Version.{number_of, NamesVersion, Accepts};
 
 use numbers::Layout;
 
 // ---- a line
 
-fn is_version(version: u64) -> bool
-    ensures { result ≡ is_version version }
-{
-    if version == 1 {
-        return true;
-    }
-    version == 2
-}
-
 // How many digits the version has, N, K, P, U, T, the cookie, and the edition.
-fn widths() -> [usize; 8]
-    ensures { result ≡ setting_widths }
-{
-    [2, 2, 2, 2, 4, 6, 16, 2]
+const WIDTHS: [usize; 8] = [2, 2, 2, 2, 4, 6, 16, 2];
+
+// The versions of a record. The edition is a field of the second's line alone.
+#[derive(Clone, Copy)]
+enum Version {
+    First,
+    Second,
 }
 
-// The edition is a field of version 2 alone.
-fn field_count(version: u64) -> usize
-    ensures { result ≡ pick (eqb version 2) 8 7 }
-{
-    if version == 2 {
-        return 8;
+// A number that no version has.
+#[derive(Clone, Copy)]
+struct UnknownVersion;
+
+impl TryFrom<u64> for Version {
+    type Error = UnknownVersion;
+
+    ghost try_from_gives = { NamesVersion };
+
+    fn try_from(number: u64) -> Result<Self, UnknownVersion> {
+        match number {
+            1 => Ok(Version::First),
+            2 => Ok(Version::Second),
+            _ => Err(UnknownVersion),
+        }
     }
-    7
 }
 
-fn line_length(version: u64) -> usize
-    ensures { result ≡ pick (eqb version 2) 44 41 }
-{
-    if version == 2 {
-        return 44;
+impl Version {
+    // The newest edition that it knows.
+    fn newest_edition(self) -> u64
+        ensures { result ≡ number_of self }
+    {
+        match self {
+            Version::First => 1,
+            Version::Second => 2,
+        }
     }
-    41
+
+    fn field_count(self) -> usize
+        ensures { result ≡ pick (eqb (number_of self) 2) 8 7 }
+    {
+        match self {
+            Version::First => 7,
+            Version::Second => 8,
+        }
+    }
+
+    fn line_length(self) -> usize
+        ensures { result ≡ pick (eqb (number_of self) 2) 44 41 }
+    {
+        match self {
+            Version::First => 41,
+            Version::Second => 44,
+        }
+    }
 }
 
 // Whether the line has the fields of a version. One of less than three characters has not even the version's.
@@ -53,11 +77,10 @@ fn has_form(line: &[u8]) -> bool
     if line.len() < 3 {
         return false;
     }
-    let version = hex_text::number_at(line, 0, 2);
-    if !is_version(version) {
-        return false;
+    match Version::try_from(hex_text::number_at(line, 0, 2)) {
+        Ok(version) => trace::has_fields(line, 0, WIDTHS, version.field_count()),
+        Err(_) => false,
     }
-    trace::has_fields(line, 0, widths(), field_count(version))
 }
 
 // The edition that a line tells; version 1 is edition 1.
@@ -65,10 +88,10 @@ fn edition_of(line: &[u8]) -> u64
     requires { has_form line.now ≡ true }
     ensures { result ≡ edition_of line.now }
 {
-    if hex_text::number_at(line, 0, 2) == 2 {
-        return hex_text::number_at(line, 41, 2);
+    match hex_text::number_at(line, 0, 2) {
+        2 => hex_text::number_at(line, 41, 2),
+        _ => 1,
     }
-    1
 }
 
 // The layout that a line tells.
@@ -76,16 +99,9 @@ fn layout_of(line: &[u8]) -> Layout
     requires { has_form line.now ≡ true }
     ensures { result ≡ setting_layout line.now }
 {
-    let six = trace::layout_at(line, 3);
-    let edition = edition_of(line);
     Layout {
-        n: six.n,
-        k: six.k,
-        p: six.p,
-        u: six.u,
-        t: six.t,
-        cookie: six.cookie,
-        edition,
+        edition: edition_of(line),
+        ..trace::layout_at(line, 3)
     }
 }
 
@@ -93,10 +109,7 @@ fn layout_of(line: &[u8]) -> Layout
 fn is_setting(line: &[u8]) -> bool
     ensures { result ≡ is_setting line.now }
 {
-    if !has_form(line) {
-        return false;
-    }
-    numbers::refusal(layout_of(line)) == 0
+    has_form(line) && numbers::refusal(layout_of(line)) == 0
 }
 
 // ---- adding a record
@@ -109,76 +122,66 @@ pub struct Added {
     pub used: usize,
 }
 
-fn add_refusal(version: u64, y: Layout, room: usize, used: usize) -> u64
-    ensures { result ≡ add_refusal version y room used }
+// The version in which the layout is added.
+fn accepted(version: u64, y: Layout, room: usize, used: usize) -> Result<Version, u64>
+    ensures { Accepts version y room used result }
 {
     let refusal = numbers::refusal(y);
     if refusal != 0 {
-        return refusal;
+        return Err(refusal);
     }
-    if !is_version(version) {
-        return 1;
-    }
+    let known = match Version::try_from(version) {
+        Ok(known) => known,
+        Err(_) => return Err(1),
+    };
     if version < y.edition {
-        return 1;
+        return Err(1);
     }
     if room < used {
-        return 5;
+        return Err(5);
     }
-    if room - used < line_length(version) {
-        return 10;
+    if room - used < known.line_length() {
+        return Err(10);
     }
-    0
+    Ok(known)
 }
 
 // Appends the line of a layout after the used part of the buffer.
 pub fn add(version: u64, y: Layout, buffer: &mut [u8], used: usize) -> Added
     ensures { Adds version y buffer.old used result buffer.new }
 {
-    let refusal = add_refusal(version, y, buffer.len(), used);
-    if refusal != 0 {
-        return Added { refusal, used };
-    }
-    let numbers = [version, y.n, y.k, y.p, y.u, y.t, y.cookie, y.edition];
-    let end = trace::write_fields(numbers, widths(), field_count(version), buffer, used);
-    Added {
-        refusal: 0,
-        used: end,
+    match accepted(version, y, buffer.len(), used) {
+        Ok(known) => {
+            let numbers = [version, y.n, y.k, y.p, y.u, y.t, y.cookie, y.edition];
+            let end = trace::write_fields(numbers, WIDTHS, known.field_count(), buffer, used);
+            Added {
+                refusal: 0,
+                used: end,
+            }
+        }
+        Err(refusal) => Added { refusal, used },
     }
 }
 
 // ---- reading the newest
 
-// What a reader finds in a text: its first malformed line, counted from 1, or 0; and where its newest line begins.
-#[derive(Clone, Copy)]
-struct Seen {
-    malformed: u64,
-    newest: usize,
-}
-
-fn scan(text: &[u8]) -> Seen
-    ensures { Scans text.now result.malformed result.newest }
+// Where the newest line of a text begins; or the first malformed line, counted from 1.
+fn scan(text: &[u8]) -> Result<usize, u64>
+    ensures { Scanned text.now result }
 {
-    let size = text.len();
     let mut line = 1;
     let mut newest = 0;
     let mut from = 0;
-    while from < size {
+    while from < text.len() {
         let end = line_cursor::line_end(text, from);
         if !is_setting(&text[from..end]) {
-            return Seen {
-                malformed: line,
-                newest: 0,
-            };
+            return Err(line);
         }
         line += 1;
         newest = from;
         from = end;
     }
-    Seen {
-        malformed: 0,
-        newest,
-    }
+    Ok(newest)
 }
 
 // Where the refusal is 12, `line` is the first malformed line, counted from 1; else 0. Refused, the layout is zeros.
@@ -200,9 +203,9 @@ fn refused(refusal: u64, line: u64) -> Settings
     }
 }
 
-// What a reader shows that was written for a version, and so knows the editions up to it.
-fn read(reader: u64, buffer: &[u8], used: usize) -> Settings
-    ensures { result ≡ settings_of reader buffer.now used }
+// What a reader shows that was written for a version, and so knows the editions up to its newest.
+fn read(reader: Version, buffer: &[u8], used: usize) -> Settings
+    ensures { result ≡ settings_of (number_of reader) buffer.now used }
 {
     if buffer.len() < used {
         return refused(5, 0);
@@ -210,13 +213,12 @@ fn read(reader: u64, buffer: &[u8], used: usize) -> Settings
     if used == 0 {
         return refused(11, 0);
     }
-    let seen = scan(&buffer[..used]);
-    if seen.malformed != 0 {
-        return refused(12, seen.malformed);
-    }
-    let begins = seen.newest;
-    let layout = layout_of(&buffer[begins..used]);
-    if reader < layout.edition {
+    let newest = match scan(&buffer[..used]) {
+        Ok(newest) => newest,
+        Err(line) => return refused(12, line),
+    };
+    let layout = layout_of(&buffer[newest..used]);
+    if reader.newest_edition() < layout.edition {
         return refused(17, 0);
     }
     Settings {
@@ -230,12 +232,12 @@ fn read(reader: u64, buffer: &[u8], used: usize) -> Settings
 pub fn newest(buffer: &[u8], used: usize) -> Settings
     ensures { result ≡ settings_of 2 buffer.now used }
 {
-    read(2, buffer, used)
+    read(Version::Second, buffer, used)
 }
 
 // The newest record, by the reader of rows that know version 1 alone.
 pub fn newest_old(buffer: &[u8], used: usize) -> Settings
     ensures { result ≡ settings_of 1 buffer.now used }
 {
-    read(1, buffer, used)
+    read(Version::First, buffer, used)
 }

@@ -1,7 +1,6 @@
 -- `answers::write_decimal` meets its contract: the digits from place `left` on stand there, and the rest of the number has those before.
 use Prim.Native.Nat.{◌+◌, ◌-◌}
 use mathlib.Core.Path.{◌≡◌, refl, sym, ap, ◌∙◌, subst}
-use native.Mathlib.Nat.{mod-lt, zero-lt-suc}
 use native.Mathlib.Omega.{arith}
 use Rattle.lists.specs.Span.{Span, span_none}
 use Rattle.answers.specs.Decimal.{tenths, places}
@@ -16,12 +15,6 @@ loop-left-init c = let n = c.args.n in
       none_tenth n ∙ ap (λ k. tenths k n) (let z : 0 ≡ places n - c.places-digits.result = omega (arith, e) in z),
       span_none _ _ _ (omega (arith, e)),
     )
-
-pub overflow_cast-text : goal.overflow_cast-text
-overflow_cast-text c = omega (arith, mod-lt c.loop-left.rest (zero-lt-suc 9))
-
-pub overflow_add-text : goal.overflow_add-text
-overflow_add-text c = omega (arith, mod-lt c.loop-left.rest (zero-lt-suc 9))
 
 pub overflow_add-text-in-loop-left : goal.overflow_add-text-in-loop-left
 overflow_add-text-in-loop-left c = omega (arith, (places-few c.args.n).1, c.loop-left.invariant.0)
@@ -41,9 +34,6 @@ loop-left-preserved c = let i = c.loop-left in
 
 pub overflow_add-result : goal.overflow_add-result
 overflow_add-result c = omega (arith, (places-few c.args.n).1, c.places-digits.ensures)
-
-pub shape_of-text : goal.shape_of-text
-shape_of-text c = c.loop-left.invariant.3.len
 
 pub returns : goal.returns
 returns c = let i = c.loop-left in

@@ -1,41 +1,17 @@
 -- `replay_line::play` meets its contract: a buffer that is too short, and each kind of line.
-use mathlib.Core.Path.{◌≡◌, sym, ◌∙◌}
-use mathlib.Core.Bool.{true}
-use Prim.Native.Nat.{ℕ, ◌+◌, ◌*◌, ◌≤◌}
-use native.Mathlib.Omega.{arith}
-use lib.ListN.{length}
-use borrow.Author.Tests.{leb-true}
-use Rattle.replay_line.specs.Play.{roomy}
+use mathlib.Core.Path.{sym, ◌∙◌}
 use Rattle.trace.specs.ToldLaws.{told_none}
 use Rattle.replay_line.specs.PlayedLaws.{plays_refused, plays_write, plays_read, plays_malformed, plays_fail, plays_repair}
 use Rattle.replay_line.proofs.play.Goals as goal
 
-wide : (image answer : ℕ) → roomy image answer ≡ true → 24 + 2 * image ≤ answer
-wide image answer t = leb-true (24 + 2 * image) answer t
-
 pub returns-then-not-has_room : goal.returns-then-not-has_room
 returns-then-not-has_room c = plays_refused c.args.y c.args.r c.args.image.now c.args.line.now c.args.answer.now (sym c.has_room.ensures ∙ c.if-not-has_room.true) c.clear.ensures
-
-pub play_fail-requires : goal.play_fail-requires
-play_fail-requires c = (sym c.kind_of-kind.ensures ∙ c.if-kind-eq2.true, let h = wide (length c.args.image.now) (length c.args.answer.now) (sym c.has_room.ensures ∙ c.if-not-has_room.false) in omega (arith, h))
 
 pub returns-then-kind-eq2 : goal.returns-then-kind-eq2
 returns-then-kind-eq2 c = plays_fail c.args.y c.args.r c.args.image.now c.args.line.now c.args.answer.now (sym c.has_room.ensures ∙ c.if-not-has_room.false) (sym c.kind_of-kind.ensures ∙ c.if-kind-eq2.true) c.play_fail.ensures
 
-pub play_repair-requires : goal.play_repair-requires
-play_repair-requires c = let h = wide (length c.args.image.now) (length c.args.answer.now) (sym c.has_room.ensures ∙ c.if-not-has_room.false) in omega (arith, h)
-
 pub returns-then-kind-eq3 : goal.returns-then-kind-eq3
 returns-then-kind-eq3 c = plays_repair c.args.y c.args.r c.args.image.now c.args.line.now c.args.answer.now (sym c.has_room.ensures ∙ c.if-not-has_room.false) (sym c.kind_of-kind.ensures ∙ c.if-kind-eq3.true) c.play_repair.ensures
-
-pub play_write-length-requires : goal.play_write-length-requires
-play_write-length-requires c = (sym c.kind_of-kind.ensures ∙ c.if-kind-eq1.true, let h = wide (length c.args.image.now) (length c.args.answer.now) (sym c.has_room.ensures ∙ c.if-not-has_room.false) in omega (arith, h))
-
-pub play_read-length-requires : goal.play_read-length-requires
-play_read-length-requires c = (sym c.kind_of-kind.ensures ∙ c.if-kind-eq4.true, wide (length c.args.image.now) (length c.args.answer.now) (sym c.has_room.ensures ∙ c.if-not-has_room.false))
-
-pub say-length-requires : goal.say-length-requires
-say-length-requires c = let h = wide (length c.args.image.now) (length c.args.answer.now) (sym c.has_room.ensures ∙ c.if-not-has_room.false) in omega (arith, h)
 
 pub returns-then-kind-eq1 : goal.returns-then-kind-eq1
 returns-then-kind-eq1 c = plays_write c.args.y c.args.r c.args.image.now c.args.line.now c.args.answer.now (sym c.has_room.ensures ∙ c.if-not-has_room.false) (sym c.kind_of-kind.ensures ∙ c.if-kind-eq1.true) c.play_write-length.ensures

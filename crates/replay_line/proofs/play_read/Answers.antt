@@ -2,7 +2,7 @@
 use mathlib.Core.Path.{sym, ◌∙◌}
 use native.Mathlib.Omega.{arith}
 use Rattle.trace.specs.FormLaws.{read_length}
-use Rattle.replay_line.specs.PlayLaws.{range_room, read_refused, read_said}
+use Rattle.replay_line.specs.PlayLaws.{range_room, read_refused}
 use Rattle.replay_line.proofs.play_read.Goals as goal
 
 pub number_at-offset-requires : goal.number_at-offset-requires
@@ -19,7 +19,3 @@ pub say_bytes-requires : goal.say_bytes-requires
 say_bytes-requires c = let a = c.args in
     let z = sym c.range_refusal-refusal.ensures ∙ c.if-refusal-ne0.false in
     (z, range_room a.y a.r _ _ _ z c.requires.1)
-
-pub returns : goal.returns
-returns c = let a = c.args in
-    read_said a.y a.r a.image.now a.line.now a.answer.now c.number_at-offset.ensures c.number_at-size.ensures c.range_refusal-refusal.ensures c.if-refusal-ne0.false c.say_bytes.ensures

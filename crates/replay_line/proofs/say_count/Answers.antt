@@ -1,17 +1,10 @@
 -- `replay_line::say_count` meets its contract: a digit and a space, the digits of the count, and the newline.
-use mathlib.Core.Path.{◌∙◌}
 use native.Mathlib.Omega.{arith}
 use lib.ListN.{length-set, set}
 use Rattle.answers.specs.Decimal.{decimal}
 use Rattle.answers.specs.DecimalLaws.{decimal-length, places-few}
 use Rattle.replay_line.specs.SaidLaws.{said_accepted}
 use Rattle.replay_line.proofs.say_count.Goals as goal
-
-pub bounds-answer-1 : goal.bounds-answer-1
-bounds-answer-1 c = omega (arith, length-set c.args.answer.now 0 48)
-
-pub write_decimal-end-requires : goal.write_decimal-end-requires
-write_decimal-end-requires c = let l = c.args.answer.now in omega (arith, length-set l 0 48, length-set (set l 0 48) 1 32, c.requires)
 
 pub bounds-answer-end : goal.bounds-answer-end
 bounds-answer-end c = let l = c.args.answer.now in
@@ -20,10 +13,6 @@ bounds-answer-end c = let l = c.args.answer.now in
 
 pub overflow_add-result : goal.overflow_add-result
 overflow_add-result c = let n = c.args.count in omega (arith, c.write_decimal-end.ensures.0, decimal-length n, (places-few n).1)
-
-pub shape_of-answer : goal.shape_of-answer
-shape_of-answer c = let l = c.args.answer.now in
-    length-set c.write_decimal-end.new.text c.write_decimal-end.result 10 ∙ c.write_decimal-end.ensures.1.len ∙ length-set (set l 0 48) 1 32 ∙ length-set l 0 48
 
 pub returns : goal.returns
 returns c = let n = c.args.count in

@@ -9,22 +9,16 @@ use Rattle.settings.proofs.scan.Goals as goal
 pub loop-from-init : goal.loop-from-init
 loop-from-init c = scan_begin c.args.text.now
 
-pub line_end-end-requires : goal.line_end-end-requires
-line_end-end-requires c = c.loop-from.invariant.within
-
-pub slice_bounds-is_setting-count : goal.slice_bounds-is_setting-count
-slice_bounds-is_setting-count c = let h = end_more c.args.text.now c.loop-from.from c.loop-from-test.true in omega (arith, c.line_end-end.ensures, h)
-
 pub slice_bounds-is_setting-end : goal.slice_bounds-is_setting-end
 slice_bounds-is_setting-end c = let k = end-le c.args.text.now c.loop-from.from c.loop-from.invariant.within in omega (arith, c.line_end-end.ensures, k)
 
 pub returns-then-not-is_setting : goal.returns-then-not-is_setting
 returns-then-not-is_setting c = let i = c.loop-from in
-    scan_stops c.args.text.now i.line i.newest i.from i.invariant c.loop-from-test.true c.line_end-end.ensures
-    (sym c.is_setting.ensures ∙ c.if-not-is_setting.true)
-
-pub overflow_add-line : goal.overflow_add-line
-overflow_add-line c = let few = c.loop-from.invariant.lines in let h = end_more c.args.text.now c.loop-from.from c.loop-from-test.true in let k = end-le c.args.text.now c.loop-from.from c.loop-from.invariant.within in omega (arith, few, c.line_end-end.ensures, h, k)
+    let some = i.invariant.some in (
+      λ z. omega (arith, z, some),
+      scan_stops c.args.text.now i.line i.newest i.from i.invariant c.loop-from-test.true c.line_end-end.ensures
+          (sym c.is_setting.ensures ∙ c.if-not-is_setting.true),
+    )
 
 pub loop-from-smaller : goal.loop-from-smaller
 loop-from-smaller c = let h = end_more c.args.text.now c.loop-from.from c.loop-from-test.true in let k = end-le c.args.text.now c.loop-from.from c.loop-from.invariant.within in omega (arith, c.line_end-end.ensures, h, k)
