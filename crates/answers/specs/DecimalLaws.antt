@@ -1,8 +1,11 @@
 -- The digits of a number, as the code's loops find and write them.
-use Rattle.std.specs.Prelude.{◌≡◌, refl, Bool, true, false, List, ℕ, suc, ◌+◌, ◌-◌, ◌/◌, ◌%◌, ◌≤◌, ◌<◌, ltb, length, set}
+use Rattle.std.specs.Prelude.{◌≡◌, refl, Bool, true, false, List, ℕ, zero, suc, ◌+◌, ◌-◌, ◌/◌, ◌%◌, ◌*◌, ◌^◌, ◌≤◌, ◌<◌, ltb, length, set}
 use Rattle.std.proofs.Common.{sym, ap, ◌∙◌, subst, ⊎_elim, arith, lt-ltb, le-ltb}
+use Rattle.std.proofs.Math.Nat.{pow-suc, pow-le-pow_right}
+use Rattle.std.proofs.lemmas.Nat.{le-div}
+use Rattle.lists.specs.Digits.{div_below}
 use Rattle.lists.specs.Pick.{either_way, equal_or_not}
-use Rattle.lists.specs.Search.{any, any_false, lowest-at, lowest_is, lowest-none}
+use Rattle.lists.specs.Search.{any, lowest, any_false, lowest-at, lowest_is, lowest-none}
 use Rattle.lists.specs.Span.{Span, span_back, span_cong, span_to}
 use Rattle.lists.specs.Put.{Put}
 use Rattle.lists.specs.Tabulate.{at, length-tabulate, get_d_tabulate}
@@ -21,28 +24,48 @@ pub next_tenth : (n i : ℕ) {rest : ℕ} → rest ≡ tenths i n → rest / 10 
 unfolding tenths
 next_tenth n i e = ap (λ (x : ℕ). x / 10) e ∙ ap (λ (k : ℕ). tenths k n) (let q : suc i ≡ i + 1 = omega arith in q)
 
--- before turn i more than one digit was left each time
-abbrev pub Longer : ℕ → ℕ → Type 0
-Longer n i = (k : ℕ) → k < i → 10 ≤ tenths k n
+-- how many tenths are left after i divisions
+tenths_below : (n i m : ℕ) → n < m * 10 ^ i → tenths i n < m
+unfolding tenths
+tenths_below n zero m h = omega (arith, h)
+tenths_below n (suc i) m h =
+    div_below (tenths i n) 10 m (omega arith) (tenths_below n i (10 * m) (let k = subst (λ (p : ℕ). n < m * p) (pow-suc 10 i) h in omega (arith, k)))
 
-pub longer_none : (n : ℕ) → Longer n 0
-longer_none n k h = absurd (omega arith)
+tenths_least : (n i m : ℕ) → m * 10 ^ i ≤ n → m ≤ tenths i n
+unfolding tenths
+tenths_least n zero m h = omega (arith, h)
+tenths_least n (suc i) m h =
+    le-div m (tenths i n) 10 (omega arith) (tenths_least n i (m * 10) (let k = subst (λ (p : ℕ). m * p ≤ n) (pow-suc 10 i) h in omega (arith, k)))
 
-pub longer_next : (n i : ℕ) {rest : ℕ} → rest ≡ tenths i n → 10 ≤ rest → Longer n i → Longer n (i + 1)
-longer_next n i e h l k b =
-    equal_or_not k i (λ (q : k ≡ i). subst (λ (x : ℕ). 10 ≤ x) (e ∙ ap (λ (j : ℕ). tenths j n) (sym q)) h) (λ (q : k ≡ i → ⊥). l k (omega arith))
+-- before the division that leaves one digit more than one was left each time
+longer_power : (n i : ℕ) → 10 ^ i ≤ n → (k : ℕ) → k < i → 10 ≤ tenths k n
+longer_power n i h k b =
+    tenths_least n k 10
+    (let p = pow-suc 10 k in let q = pow-le-pow_right {n = 10} (omega arith) {i = suc k} {j = i} b in omega (arith, p, q, h))
 
-pub places-at : (n i : ℕ) {rest : ℕ} → i < 19 → rest ≡ tenths i n → rest < 10 → Longer n i → i + 1 ≡ places n
+-- a number has one digit more than the exponent of the greatest power of ten that it reaches
+pub places-power : (n i : ℕ) → 10 ^ i ≤ n → n < 10 * 10 ^ i → i < 20 → i + 1 ≡ places n
 unfolding places
-places-at n i h e k l =
-    let one = lowest-at (is_one n) 19 i h (ap (λ (x : ℕ). ltb x 10) (sym e) ∙ lt-ltb _ 10 k) (λ j b. le-ltb (tenths j n) 10 (l j b)) in
+places-power n i least most few = equal_or_not i 19 all some
+  where
+    more : (k : ℕ) → k < i → is_one n k ≡ false
+    more k b = le-ltb (tenths k n) 10 (longer_power n i least k b)
+
+    all : i ≡ 19 → i + 1 ≡ suc (lowest (is_one n) 19)
+    all e =
+        let none = lowest-none (is_one n) 19 (any_false (is_one n) 19 (λ k b. more k (omega (arith, e, b)))) in
+        omega (arith, e, none)
+
+    some : (i ≡ 19 → ⊥) → i + 1 ≡ suc (lowest (is_one n) 19)
+    some f =
+        let one = lowest-at (is_one n) 19 i (omega (arith, f, few)) (lt-ltb (tenths i n) 10 (tenths_below n i 10 most)) more in
+        omega (arith, one)
+
+pub places-none : 1 ≡ places 0
+unfolding places tenths
+places-none =
+    let one = lowest-at (is_one 0) 19 0 (omega arith) refl (λ k b. absurd (omega (arith, b))) in
     omega (arith, one)
-
-pub places-all : (n : ℕ) → Longer n 19 → 20 ≡ places n
-unfolding places
-places-all n l =
-    let none = lowest-none (is_one n) 19 (any_false (is_one n) 19 (λ j b. le-ltb (tenths j n) 10 (l j b))) in
-    omega (arith, none)
 
 pub places-few : (n : ℕ) → (0 < places n) × (places n ≤ 20)
 unfolding places

@@ -1,3 +1,2 @@
 pub mod Decimal
 pub mod DecimalLaws
-pub mod Spread

@@ -6,20 +6,15 @@ ghost use Rattle.lists.specs.Span.{Span};
 ghost use Rattle.lists.specs.Put.{Put};
 ghost use Rattle.hex_text.specs.Runs.{unit_from};
 ghost use Rattle.answers.specs.Decimal.{places as places_of, decimal};
-ghost use Rattle.answers.specs.Spread.{Block};
 
 // How many decimal digits n has.
 fn places(n: u64) -> usize
     ensures { result ≡ places_of n }
 {
-    let mut rest = n;
-    for i in 0..19 {
-        if rest < 10 {
-            return i + 1;
-        }
-        rest /= 10;
+    match n.checked_ilog10() {
+        Some(power) => power as usize + 1,
+        None => 1,
     }
-    20
 }
 
 // Writes n in decimal at place `at`, and answers where the text goes on.
@@ -28,10 +23,8 @@ pub fn write_decimal(n: u64, text: &mut [u8], at: usize) -> usize
     ensures { (result ≡ at + length (decimal n)) × Put at (decimal n) text.old text.new }
 {
     let digits = places(n);
-    let mut left = digits;
     let mut rest = n;
-    while 0 < left {
-        left -= 1;
+    for left in (0..digits).rev() {
         text[at + left] = 48 + (rest % 10) as u8;
         rest /= 10;
     }
@@ -47,26 +40,12 @@ fn spread_bytes(text: &mut [u8], at: usize, size: usize)
     ensures { Span (unit_from text.old (at + size) at) at (at + 2 * size) text.old text.new }
 {
     let begins = at + size;
-    let mut i = 0;
-    let mut to = at;
-    while i < size {
+    for i in 0..size {
         let b = text[begins + i];
+        let to = at + 2 * i;
         text[to] = hex_text::hex_digit(b / 16 % 16);
         text[to + 1] = hex_text::hex_digit(b % 16);
-        i += 1;
-        to += 2;
     }
-}
-
-fn block_at(text: &[u8], from: usize) -> [u8; 64]
-    requires { from + 64 ≤ length text.now }
-    ensures { Block text.now from result }
-{
-    let mut block = [0u8; 64];
-    for j in 0..64 {
-        block[j] = text[from + j];
-    }
-    block
 }
 
 // 64 bytes at once, by a copy: digits that are written beside their bytes are no work for vectors.
@@ -74,7 +53,8 @@ fn spread_block(text: &mut [u8], begins: usize, to: usize)
     requires { (begins + 64 ≤ length text.old) × (to + 128 ≤ length text.old) }
     ensures { Span (unit_from text.old begins to) to (to + 128) text.old text.new }
 {
-    let block = block_at(text, begins);
+    let mut block = [0u8; 64];
+    block.copy_from_slice(&text[begins..begins + 64]);
     hex_text::write_unit(&block, 0, 64, text, to);
 }
 
@@ -83,10 +63,9 @@ pub fn spread_hex(text: &mut [u8], at: usize, size: usize)
     requires { at + 2 * size ≤ length text.old }
     ensures { Span (unit_from text.old (at + size) at) at (at + 2 * size) text.old text.new }
 {
-    let mut i = 0;
-    while 64 <= size - i {
-        spread_block(text, at + size + i, at + 2 * i);
-        i += 64;
+    let blocks = size / 64;
+    for block in 0..blocks {
+        spread_block(text, at + size + 64 * block, at + 128 * block);
     }
-    spread_bytes(text, at + 2 * i, size - i);
+    spread_bytes(text, at + 128 * blocks, size - 64 * blocks);
 }

@@ -7,6 +7,3 @@ use Rattle.answers.proofs.write_decimal.Given as goal
 
 abbrev pub invariant-loop-left : goal.invariant-loop-left
 invariant-loop-left l = (l.digits ≡ places l.n) × (l.left ≤ l.digits) × (l.rest ≡ tenths (places l.n - l.left) l.n) × Span (digit_from l.n l.at) (l.at + l.left) (l.at + places l.n) l.initial.text l.text
-
-abbrev pub decreases-loop-left : goal.decreases-loop-left
-decreases-loop-left l = l.left
