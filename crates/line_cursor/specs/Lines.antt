@@ -1,5 +1,5 @@
 -- The lines of a text, and the lines that a cursor hands out over the pieces of one. A line is held with its newline (10).
-use Rattle.std.specs.Prelude.{Bool, List, [], ◌∷◌, ◌++◌, ℕ, ◌+◌, ◌-◌, eqb, ltb, length, take, drop}
+use Rattle.std.specs.Prelude.{◌≡◌, Bool, List, [], ◌∷◌, ◌++◌, ℕ, ◌+◌, ◌-◌, ◌<◌, eqb, ltb, length, take, drop}
 use Rattle.lists.specs.Pick.{pick}
 use Rattle.lists.specs.Search.{any}
 use Rattle.lists.specs.Tabulate.{at}
@@ -34,9 +34,13 @@ whole_of line = eqb (at line (length line - 1)) 10
 abbrev pub line_end : List ℕ → ℕ → ℕ
 line_end piece from = from + length (first_line (drop from piece))
 
--- one of the n bytes from place a on is a newline
-abbrev pub newline_within : List ℕ → ℕ → ℕ → Bool
-newline_within piece a n = any (λ i. eqb (at piece (a + i)) 10) n
+-- one of the first n bytes is a newline
+abbrev pub newline_within : List ℕ → ℕ → Bool
+newline_within bytes n = any (λ i. eqb (at bytes i) 10) n
+
+-- none of the first n bytes is a newline
+abbrev pub NoNewline : List ℕ → ℕ → Type 0
+NoNewline bytes n = (k : ℕ) → k < n → at bytes k ≡ 10 → ⊥
 
 -- ---- the cursor
 

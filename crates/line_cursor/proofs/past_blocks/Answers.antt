@@ -1,30 +1,25 @@
 -- `line_cursor::past_blocks` meets its contract: before each block the line ends where one that began there would.
-use mathlib.Core.Path.{refl, sym, ◌∙◌}
+use mathlib.Core.Path.{sym, ◌∙◌}
 use native.Mathlib.Omega.{arith}
-use Rattle.line_cursor.specs.StepLaws.{end-block}
+use Rattle.line_cursor.specs.StepLaws.{block_rest, block_room, end-block}
 use Rattle.line_cursor.proofs.past_blocks.Goals as goal
 
-pub loop-at-init : goal.loop-at-init
-loop-at-init c = (c.requires.0, refl)
-
-pub overflow_sub-piece : goal.overflow_sub-piece
-overflow_sub-piece c = c.loop-at.invariant.0
-
-pub has_newline-requires : goal.has_newline-requires
-has_newline-requires c = omega (arith, c.loop-at.invariant.0)
-
-pub returns-then-has_newline : goal.returns-then-has_newline
-returns-then-has_newline c = c.loop-at.invariant
-
 pub overflow_add-at : goal.overflow_add-at
-overflow_add-at c = omega (arith, c.loop-at.invariant.0)
+overflow_add-at c = let i = c.loop-block.invariant in
+    let s = c.in-Some.ensures in
+    let room = block_room c.args.piece.now c.loop-block.at c.args.n c.in-Some.block.now _ (sym i.1 ∙ s.steps.1.0) (s.steps.1.1 ∙ i.0) i.2 in
+    omega (arith, room)
 
-pub loop-at-smaller : goal.loop-at-smaller
-loop-at-smaller c = omega (arith, c.loop-at.invariant.0, c.requires.1)
-
-pub loop-at-preserved : goal.loop-at-preserved
-loop-at-preserved c = let i = c.loop-at in
-    (omega (arith, i.invariant.0), i.invariant.1 ∙ end-block c.args.piece.now i.at c.args.n (omega (arith, i.invariant.0)) (sym c.has_newline.ensures ∙ c.if-has_newline.false))
-
-pub returns : goal.returns
-returns c = c.loop-at.invariant
+pub loop-block-preserved : goal.loop-block-preserved
+loop-block-preserved c = let i = c.loop-block.invariant in
+    let piece = c.args.piece.now in
+    let at = c.loop-block.at in
+    let block = c.in-Some.block.now in
+    let s = c.in-Some.ensures in
+    let e = sym i.1 ∙ s.steps.1.0 in
+    let q = s.steps.1.1 ∙ i.0 in (
+      s.steps.0 ∙ i.0,
+      block_rest piece at c.args.n block _ e q,
+      block_room piece at c.args.n block _ e q i.2,
+      i.3 ∙ end-block piece at c.args.n block _ e q i.2 (sym c.has_newline.ensures ∙ c.if-has_newline.false),
+    )
