@@ -1,9 +1,11 @@
 -- The list of a plan as the code goes through it, one entry's numbers after another's.
-use Rattle.std.specs.Prelude.{◌≡◌, Bool, true, false, List, ℕ, ◌+◌, ◌*◌, ◌/◌, ◌<◌, ◌≤◌, eqb, length, get_or, set, replicate}
-use Rattle.std.proofs.Common.{sym, ◌∙◌, subst, mul-le-mul_left, arith, eq-eqb, ne_eqb, get_or-set_same, get_or-set_other}
+use Rattle.std.specs.Prelude.{◌≡◌, Bool, true, false, List, ◌++◌, ℕ, suc, ◌+◌, ◌-◌, ◌*◌, ◌/◌, ◌<◌, ◌≤◌, eqb, length, get_or, set, drop, replicate}
+use Rattle.std.proofs.Common.{sym, ◌∙◌, subst, mul-zero, mul-suc, add-one, length-drop, length-append, get_or-drop, arith, eq-eqb, ne_eqb, get_or-set_same, get_or-set_other}
 use Rattle.std.proofs.Math.Path.{ap}
 use Rattle.std.proofs.Math.Bool.{not}
-use Rattle.std.proofs.Math.Nat.{mul-div_cancel_left, lt_of_mul-lt-mul_left}
+use Rattle.std.proofs.Math.Nat.{lt_of_mul-lt-mul_left}
+use Rattle.std.proofs.Math.ListN.{get_or-append}
+use Rattle.std.proofs.Math.Seq.{drop-drop, drop_at}
 use Rattle.std.proofs.lemmas.List.{get_or-replicate}
 use Rattle.lists.specs.Pick.{pick, pick_true, pick-false, equal_or_not}
 use Rattle.lists.specs.Search.{any}
@@ -33,195 +35,207 @@ use Rattle.proposal.specs.Running.{unused, planned_image}
 use Rattle.proposal_run.specs.Steps.{entry_image, ran_to, ran_length, ran_none, ran_next, ran_all}
 use Rattle.proposal_run.specs.Entry.{LeavesSources, EntryPlan, entry_solvable, entry-planned, entry_fits, entry_mend_fits, entry-run}
 
--- the entry whose numbers begin at number a of the list
-abbrev pub entry_at : Layout → ℕ → ℕ
-entry_at y a = a / entry_size y
-
--- number a of the list is where an entry of an accepted plan begins
-pub record AtEntry (y : Layout) (s : Shape) (R : Record) (plan : List ℕ) (a : ℕ) : Type 0 where
+-- entry e of an accepted plan: its numbers, as they lie in the plan
+pub record AtEntry (y : Layout) (s : Shape) (R : Record) (plan : List ℕ) (e : ℕ) (entry : List ℕ) : Type 0 where
   pub valid : Valid y
   pub shape : Shaped y s
   pub good : Good y R
   pub accepts : Accepts y R plan
-  pub begins : a ≡ entry_size y * entry_at y a
-  pub entry_lt : entry_at y a < entries y plan
+  pub entry_lt : e < entries y plan
+  pub long : length entry ≡ entry_size y
+  pub numbers : (f : ℕ) → f < entry_size y → at entry f ≡ number_of y plan e f
 
--- the n numbers from number `from` on
-abbrev pub source_from : List ℕ → ℕ → ℕ → ℕ
-source_from plan from j = at plan (from + j)
+-- an entry of some accepted plan
+pub record RunsEntry (y : Layout) (s : Shape) (R : Record) (entry : List ℕ) : Type 0 where
+  pub plan : List ℕ
+  pub number : ℕ
+  pub there : AtEntry y s R plan number entry
 
--- are there, and may be contents
-pub record SourcesFrom (plan : List ℕ) (from n : ℕ) : Type 0 where
-  pub room : from + n ≤ length plan
-  pub below : (j : ℕ) → j < n → source_from plan from j < 19
+-- the sources may be contents
+abbrev pub MayBeContents : List ℕ → Type 0
+MayBeContents sources = (j : ℕ) → j < length sources → at sources j < 19
 
--- the flags are set at all contents but these
-pub record LeftOut (plan : List ℕ) (from n : ℕ) (flags : List Bool) : Type 0 where
-  pub are : (u : ℕ) → u < 19 → flag flags u ≡ not (listed (source_from plan from) n u)
+-- the flags are set at all contents but the first n of these
+pub record LeftOut (sources : List ℕ) (n : ℕ) (flags : List Bool) : Type 0 where
+  pub are : (u : ℕ) → u < 19 → flag flags u ≡ not (listed (at sources) n u)
 
--- the first entries are run, up to the one that begins at number a
-pub record RanEntries (y : Layout) (R : Record) (plan img₀ : List ℕ) (a : ℕ) (img : List ℕ) : Type 0 where
-  pub begins : a ≡ entry_size y * entry_at y a
-  pub few : entry_at y a ≤ entries y plan
-  pub ran : img ≡ ran_to y R plan img₀ (entry_at y a)
+-- where so much of the plan is left, from an entry on: the entries before it are run
+pub record RanEntries (y : Layout) (R : Record) (plan img₀ left img : List ℕ) : Type 0 where
+  pub done : ℕ
+  pub here : left ≡ drop (entry_size y * done) plan
+  pub few : done ≤ entries y plan
+  pub ran : img ≡ ran_to y R plan img₀ done
 
 -- ---- what stands for an entry: its sources alone
 
-pub left-none : (plan : List ℕ) (from : ℕ) → LeftOut plan from 0 (replicate 19 true)
+pub left-none : (sources : List ℕ) → LeftOut sources 0 (replicate 19 true)
 unfolding listed any
-left-none plan from = record { are = λ u h. get_or-replicate 19 u true false h }
+left-none sources = record { are = λ u h. get_or-replicate 19 u true false h }
 
 -- one source more
-pub left_turn : (plan : List ℕ) (from j : ℕ) (flags : List Bool) → length flags ≡ 19 → source_from plan from j < 19 → LeftOut plan from j flags
-    → LeftOut plan from (j + 1) (set flags (source_from plan from j) false)
-left_turn plan from j flags len lt left =
+pub left_turn : (sources : List ℕ) (j : ℕ) (flags : List Bool) → length flags ≡ 19 → at sources j < 19 → LeftOut sources j flags
+    → LeftOut sources (j + 1) (set flags (at sources j) false)
+left_turn sources j flags len lt left =
     record {
       are = λ u h.
           equal_or_not u x
           (λ (e : u ≡ x).
           ap (flag (set flags x false)) e
           ∙ get_or-set_same flags x false false (omega (arith, len))
-          ∙ sym (ap not (listed_next (source_from plan from) j u ∙ pick_true (eqb x u) true _ (eq-eqb x u (sym e)))))
+          ∙ sym (ap not (listed_next (at sources) j u ∙ pick_true (eqb x u) true _ (eq-eqb x u (sym e)))))
           (λ (ne : u ≡ x → ⊥).
           get_or-set_other flags x u false false ne
           ∙ left.are u h
-          ∙ sym (ap not (listed_next (source_from plan from) j u ∙ pick-false (eqb x u) true _ (ne_eqb x u (λ (e : x ≡ u). ne (sym e))))));
+          ∙ sym (ap not (listed_next (at sources) j u ∙ pick-false (eqb x u) true _ (ne_eqb x u (λ (e : x ≡ u). ne (sym e))))));
     }
   where
     x : ℕ
-    x = source_from plan from j
+    x = at sources j
 
 -- ---- what the list has at an entry
 
-module _ (y : Layout) (s : Shape) (R : Record) (plan : List ℕ) (a : ℕ) (e : AtEntry y s R plan a) where
-  -- all its numbers
-  pub entry_room : a + (y.n + 2) ≤ length plan
-  entry_room = omega (arith, e.begins, e.accepts.whole, mul-le-mul_left (entry_size y) e.entry_lt)
+module _ (y : Layout) (s : Shape) (R : Record) (plan : List ℕ) (e : ℕ) (entry : List ℕ) (k : AtEntry y s R plan e entry) where
+  group_read_lem : at entry 0 ≡ group_named y plan e
+  group_read_lem = k.numbers 0 (omega arith)
 
-  group_read_lem : at plan a ≡ group_named y plan (entry_at y a)
-  unfolding number_of
-  group_read_lem = ap (at plan) (let z : a ≡ entry_size y * entry_at y a + 0 = omega (arith, e.begins) in z)
+  content_read : at entry 1 ≡ content_named y plan e
+  content_read = k.numbers 1 (omega arith)
 
-  content_read : at plan (a + 1) ≡ content_named y plan (entry_at y a)
-  unfolding number_of
-  content_read = ap (λ (x : ℕ). at plan (x + 1)) e.begins
-
-  source_read : (j : ℕ) → source_from plan (a + 2) j ≡ source y plan (entry_at y a) j
-  unfolding number_of
-  source_read j = ap (at plan) (let z : a + 2 + j ≡ entry_size y * entry_at y a + (2 + j) = omega (arith, e.begins) in z)
-
-  pub entry_sources : SourcesFrom plan (a + 2) y.n
-  entry_sources =
-      record {
-        room = omega (arith, entry_room);
-        below = λ j h. omega (arith, source_read j, e.accepts.source-lt (entry_at y a) j e.entry_lt h, e.valid.few_data, e.valid.few_parity);
-      }
-
-  entry-left : (flags : List Bool) → LeftOut plan (a + 2) y.n flags → LeavesSources y plan (entry_at y a) flags
-  unfolding unused
-  entry-left flags left u h =
-      left.are u (omega (arith, h, e.valid.few_data, e.valid.few_parity))
-      ∙ ap not (listed_same (source_from plan (a + 2)) (source y plan (entry_at y a)) y.n u (λ j b. source_read j))
-
-  pub entry_tile : (to : List ℕ) → to ≡ tile_permutation y (at plan a / s.c) → Good y R × InTile y s to (at plan a)
+  pub entry_tile : (to : List ℕ) → to ≡ tile_permutation y (at entry 0 / s.c) → Good y R × InTile y s to (at entry 0)
   entry_tile to q = (
-    e.good,
+    k.good,
     record {
-      valid = e.valid;
-      shape = e.shape;
+      valid = k.valid;
+      shape = k.shape;
       tile = q;
-      group = omega (arith, group_read_lem, e.accepts.group_lt (entry_at y a) e.entry_lt);
+      group = omega (arith, group_read_lem, k.accepts.group_lt e k.entry_lt);
     },
   )
 
+  -- its sources
+  module _ (sources : List ℕ) (behind : sources ≡ drop 2 entry) where
+    sources_long : length sources ≡ y.n
+    sources_long = omega (arith, ap length behind, length-drop 2 entry, k.long)
+
+    source_read : (j : ℕ) → j < y.n → at sources j ≡ source y plan e j
+    source_read j h = ap (λ (l : List ℕ). at l j) behind ∙ get_or-drop 2 entry j 0 ∙ k.numbers (2 + j) (omega arith)
+
+    pub entry_sources : MayBeContents sources
+    entry_sources j h =
+        let b : j < y.n = omega (arith, h, sources_long) in
+        omega (arith, source_read j b, k.accepts.source-lt e j k.entry_lt b, k.valid.few_data, k.valid.few_parity)
+
+    entry-left : (flags : List Bool) → LeftOut sources (length sources) flags → LeavesSources y plan e flags
+    unfolding unused
+    entry-left flags left u h =
+        left.are u (omega (arith, h, k.valid.few_data, k.valid.few_parity))
+        ∙ ap not (ap (λ (n : ℕ). listed (at sources) n u) sources_long ∙ listed_same (at sources) (source y plan e) y.n u (λ j b. source_read j b))
+
 -- ---- what its code hands on
 
-module _ (y : Layout) (s : Shape) (R : Record) (plan : List ℕ) (a : ℕ) (e : AtEntry y s R plan a) (last : Survey) (w : Surveying y last)
-    (flags : List Bool) (left : LeftOut plan (a + 2) y.n flags) where
+module _ (y : Layout) (s : Shape) (R : Record) (plan : List ℕ) (e : ℕ) (entry : List ℕ) (k : AtEntry y s R plan e entry) (last : Survey)
+    (w : Surveying y last) (sources : List ℕ) (behind : sources ≡ drop 2 entry) (flags : List Bool) (left : LeftOut sources (length sources) flags) where
+  leaves : LeavesSources y plan e flags
+  leaves = entry-left y s R plan e entry k sources behind flags left
+
   pub entry_next : Right last.plan × Solvable last.plan.n last.plan.k (flag flags)
-  entry_next =
-      entry_solvable y e.valid R e.good plan e.accepts (entry_at y a) e.entry_lt last w flags (entry-left y s R plan a e flags left)
+  entry_next = entry_solvable y k.valid R k.good plan k.accepts e k.entry_lt last w flags leaves
 
-  module _ (homes : List ℕ) (new : StartsUnder y R R.k (at plan a) homes) (Q : Plan)
+  module _ (homes : List ℕ) (new : StartsUnder y R R.k (at entry 0) homes) (Q : Plan)
       (p : Planned last.plan.n last.plan.k last.plan.u homes flags Q) where
-    new-here : StartsUnder y R R.k (group_named y plan (entry_at y a)) homes
-    new-here = subst (λ (g : ℕ). StartsUnder y R R.k g homes) (group_read_lem y s R plan a e) new
+    new-here : StartsUnder y R R.k (group_named y plan e) homes
+    new-here = subst (λ (g : ℕ). StartsUnder y R R.k g homes) (group_read_lem y s R plan e entry k) new
 
-    planned : EntryPlan y R plan (entry_at y a) Q
-    planned =
-        entry-planned y e.valid R e.good plan e.accepts (entry_at y a) e.entry_lt last w homes new-here flags (entry-left y s R plan a e flags left) Q p
+    planned : EntryPlan y R plan e Q
+    planned = entry-planned y k.valid R k.good plan k.accepts e k.entry_lt last w homes new-here flags leaves Q p
 
-    pub entry_ready : (size : ℕ) → size ≡ image_length y → Fits Q size × MendFits Q homes size × (at plan (a + 1) < Q.n + Q.k)
+    pub entry_ready : (size : ℕ) → size ≡ image_length y → Fits Q size × MendFits Q homes size × (at entry 1 < Q.n + Q.k)
     entry_ready size q = (
-      entry_fits y e.valid R e.good plan e.accepts (entry_at y a) e.entry_lt Q planned size q,
-      entry_mend_fits y e.valid R e.good plan e.accepts (entry_at y a) e.entry_lt Q planned homes new-here size q,
-      omega (arith, content_read y s R plan a e, e.accepts.content-lt (entry_at y a) e.entry_lt, planned.n_is, planned.k_is),
+      entry_fits y k.valid R k.good plan k.accepts e k.entry_lt Q planned size q,
+      entry_mend_fits y k.valid R k.good plan k.accepts e k.entry_lt Q planned homes new-here size q,
+      omega (arith, content_read y s R plan e entry k, k.accepts.content-lt e k.entry_lt, planned.n_is, planned.k_is),
     )
 
-    pub entry_done : (tile : ℕ) (to : List ℕ) → to ≡ tile_permutation y tile → (img img' : List ℕ) → length img ≡ image_length y → (c : ℕ) → c ≡ at plan (a + 1)
-        → img' ≡ pick (miss_of Q c) (run_set (get_or homes c 0) Q.u (held_run Q img 0 c) img) img
-        → Surveying y (record { tile = tile; to = to; plan = Q }) × (img' ≡ entry_image y R plan (entry_at y a) img)
-    entry_done tile to t img img' len c ec q = (
-      record { to_is = t; n_is = planned.n_is; k_is = planned.k_is; u_is = planned.u_is; right = planned.right },
-      entry-run y e.valid R e.good plan e.accepts (entry_at y a) e.entry_lt Q planned homes new-here img img' len
-          (q ∙ ap (λ (d : ℕ). pick (miss_of Q d) (run_set (get_or homes d 0) Q.u (held_run Q img 0 d) img) img) (ec ∙ content_read y s R plan a e)),
-    )
+    pub entry_surveyed : (tile : ℕ) (to : List ℕ) → to ≡ tile_permutation y tile → Surveying y (record { tile = tile; to = to; plan = Q })
+    entry_surveyed tile to t =
+        record { to_is = t; n_is = planned.n_is; k_is = planned.k_is; u_is = planned.u_is; right = planned.right }
+
+    pub entry_stored : (img img' : List ℕ) → length img ≡ image_length y
+        → img' ≡ pick (miss_of Q (at entry 1)) (run_set (get_or homes (at entry 1) 0) Q.u (held_run Q img 0 (at entry 1)) img) img
+        → img' ≡ entry_image y R plan e img
+    entry_stored img img' len q =
+        entry-run y k.valid R k.good plan k.accepts e k.entry_lt Q planned homes new-here img img' len
+        (q ∙ ap (λ (d : ℕ). pick (miss_of Q d) (run_set (get_or homes d 0) Q.u (held_run Q img 0 d) img) img) (content_read y s R plan e entry k))
 
 -- ---- entry after entry
 
-entry_of : (y : Layout) (a i : ℕ) → a ≡ entry_size y * i → entry_at y a ≡ i
-entry_of y a i e = ap (entry_at y) e ∙ mul-div_cancel_left i (let z : 0 < y.n + 2 = omega arith in z)
-
-pub run_begin : (y : Layout) (R : Record) (plan img : List ℕ) → RanEntries y R plan img 0 img
-run_begin y R plan img =
+pub run_begin : (y : Layout) (R : Record) (plan img left : List ℕ) → left ≡ plan → RanEntries y R plan img left img
+run_begin y R plan img left e =
     record {
-      begins = omega (arith, ap (λ (i : ℕ). entry_size y * i) first);
-      few = omega (arith, first);
-      ran = sym (ap (ran_to y R plan img) first ∙ ran_none y R plan img);
+      done = 0;
+      here = e ∙ sym (ap (λ (n : ℕ). drop n plan) (mul-zero (entry_size y)));
+      few = omega arith;
+      ran = sym (ran_none y R plan img);
     }
-  where
-    first : entry_at y 0 ≡ 0
-    first = entry_of y 0 0 (omega arith)
 
-module _ (y : Layout) (R : Record) (plan img₀ : List ℕ) (sound : Sound y R (length img₀)) (k : Accepts y R plan) (a : ℕ) (img : List ℕ)
-    (r : RanEntries y R plan img₀ a img) where
+module _ (y : Layout) (R : Record) (plan img₀ : List ℕ) (sound : Sound y R (length img₀)) (k : Accepts y R plan) (left img : List ℕ)
+    (r : RanEntries y R plan img₀ left img) where
   pub run_length : length img ≡ length img₀
-  run_length = ap length r.ran ∙ ran_length y R plan img₀ (entry_at y a)
+  run_length = ap length r.ran ∙ ran_length y R plan img₀ r.done
 
-  -- while the list goes on there is an entry more
-  pub run_at : (s : Shape) → Shaped y s → a < length plan → AtEntry y s R plan a
-  run_at s shape h =
-      record {
-        valid = sound.valid;
-        shape = shape;
-        good = sound.good;
-        accepts = k;
-        begins = r.begins;
-        entry_lt = lt_of_mul-lt-mul_left (entry_size y) {m = entry_at y a} {n = entries y plan} (omega (arith, h, r.begins, k.whole));
-      }
+  left_long : length left ≡ length plan - entry_size y * r.done
+  left_long = ap length r.here ∙ length-drop (entry_size y * r.done) plan
 
-  pub run_turn : (s : Shape) → AtEntry y s R plan a → (img' : List ℕ) → img' ≡ entry_image y R plan (entry_at y a) img
-      → RanEntries y R plan img₀ (a + (y.n + 2)) img'
-  run_turn s e img' q =
-      record {
-        begins = omega (arith, r.begins, ap (λ (i : ℕ). entry_size y * i) next);
-        few = omega (arith, next, e.entry_lt);
-        ran =
-            q
-            ∙ ap (entry_image y R plan (entry_at y a)) r.ran
-            ∙ ran_next y R plan img₀ sound.valid sound.good k sound.len_is (entry_at y a) e.entry_lt
-            ∙ ap (ran_to y R plan img₀) (sym next);
-      }
-    where
-      next : entry_at y (a + (y.n + 2)) ≡ entry_at y a + 1
-      next = entry_of y (a + (y.n + 2)) (entry_at y a + 1) (omega (arith, r.begins))
+  -- what is left begins with an entry
+  module _ (entry rest : List ℕ) (cut : left ≡ entry ++ rest) (long : length entry ≡ entry_size y) where
+    run_at : (s : Shape) → Shaped y s → AtEntry y s R plan r.done entry
+    unfolding number_of
+    run_at s shape =
+        record {
+          valid = sound.valid;
+          shape = shape;
+          good = sound.good;
+          accepts = k;
+          entry_lt =
+              lt_of_mul-lt-mul_left (entry_size y) {m = r.done} {n = entries y plan}
+              (omega (arith, k.whole, left_long, ap length cut, length-append entry rest, long));
+          long = long;
+          numbers = λ f h.
+              sym (get_or-append entry rest 0 f (omega (arith, long)))
+              ∙ ap (λ (l : List ℕ). at l f) (sym cut ∙ r.here)
+              ∙ get_or-drop (entry_size y * r.done) plan f 0;
+        }
 
-  pub run_end : length plan ≤ a → img ≡ planned_image y R plan img₀
+    pub run_entry : (s : Shape) → Shaped y s → RunsEntry y s R entry
+    run_entry s shape = record { plan = plan; number = r.done; there = run_at s shape }
+
+    pub run_turn : (s : Shape) → Shaped y s → (img' : List ℕ)
+        → ((list : List ℕ) (e : ℕ) → AtEntry y s R list e entry → img' ≡ entry_image y R list e img) → RanEntries y R plan img₀ rest img'
+    run_turn s shape img' stored =
+        record {
+          done = r.done + 1;
+          here =
+              sym (drop_at entry rest (entry_size y) long)
+              ∙ ap (drop (entry_size y)) (sym cut ∙ r.here)
+              ∙ drop-drop (entry_size y) (entry_size y * r.done) plan
+              ∙ ap (λ (n : ℕ). drop n plan) (omega (arith, mul-suc (entry_size y) r.done, ap (λ (i : ℕ). entry_size y * i) (add-one r.done)));
+          few = omega (arith, here.entry_lt);
+          ran =
+              stored plan r.done here
+              ∙ ap (entry_image y R plan r.done) r.ran
+              ∙ ran_next y R plan img₀ sound.valid sound.good k sound.len_is r.done here.entry_lt;
+        }
+      where
+        here : AtEntry y s R plan r.done entry
+        here = run_at s shape
+
+  -- where less than an entry is left, all are run
+  pub run_end : length left < entry_size y → img ≡ planned_image y R plan img₀
   run_end h =
       r.ran ∙ ap (ran_to y R plan img₀) all ∙ ran_all y R plan img₀ sound.valid sound.good k sound.len_is
     where
-      all : entry_at y a ≡ entries y plan
+      all : r.done ≡ entries y plan
       all =
-          let past : entries y plan < entry_at y a + 1 =
-          lt_of_mul-lt-mul_left (entry_size y) {m = entries y plan} {n = entry_at y a + 1} (omega (arith, h, r.begins, k.whole)) in
+          let past : entries y plan < suc r.done =
+          lt_of_mul-lt-mul_left (entry_size y) {m = entries y plan} {n = suc r.done} (omega (arith, h, k.whole, left_long, mul-suc (entry_size y) r.done)) in
           omega (arith, past, r.few)

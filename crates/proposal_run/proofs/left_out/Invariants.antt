@@ -1,8 +1,6 @@
-use mathlib.Core.Path.{◌≡◌}
-use Prim.Native.Nat.{◌-◌, ◌≤◌}
-use lib.ListN.{length}
+use Rattle.std.proofs.Common.{◌≡◌, length}
 use Rattle.proposal_run.specs.Turns.{LeftOut}
 use Rattle.proposal_run.proofs.left_out.Given as goal
 
-abbrev pub invariant-loop-j : goal.invariant-loop-j
-invariant-loop-j l = (l.j ≤ l.n) × (length l.missing ≡ 19) × LeftOut l.proposal l.from l.j l.missing
+abbrev pub invariant-loop-source : goal.invariant-loop-source
+invariant-loop-source l = (length l.missing ≡ 19) × LeftOut l.sources l.source-index l.missing
