@@ -1,4 +1,5 @@
 pub mod Writing
+pub mod Whole
 pub mod Sources
 pub mod Steps
 pub mod Made

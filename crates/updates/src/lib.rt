@@ -10,73 +10,90 @@ ghost use Rattle.kernel.specs.InPlace.{Apart as ApartIn};
 ghost use Rattle.plan.specs.Plans.{at_of, miss_of, Right, Fits, Apart};
 ghost use Rattle.runs.specs.Run.{run_set, paint};
 ghost use Rattle.runs.specs.Held.{run_of, rank_place};
-ghost use Rattle.updates.specs.Writing.{stores_in, run_written, RunFits};
+ghost use Rattle.updates.specs.Writing.{stores_in};
 ghost use Rattle.updates.specs.Sources.{byte_start, lost_start, Starts, standing, parity_at, whole_parity, around_sum, parity_over, kept_run, Begins, Keeps};
+ghost use Rattle.updates.specs.Whole.{Suits, written};
 
 use plan::Plan;
 
-fn within(a: usize, k: usize, x: usize) -> bool
-    ensures { result ≡ withinRun a k x }
-{
-    if a <= x {
-        return x - a < k;
+// A run of a group: the unit offsets lo .. lo + len, where the data units from .. from + units are named. The group's data begin at file byte
+// `group_at`, the bytes to write at file byte `bytes_at`.
+#[derive(Clone, Copy)]
+pub struct Run {
+    pub group_at: usize,
+    pub bytes_at: usize,
+    pub from: usize,
+    pub units: usize,
+    pub lo: usize,
+    pub len: usize,
+}
+
+impl Run {
+    // Whether data unit c is named. No end of the named units is worked out, so that no sum has to fit.
+    fn names(self, c: usize) -> bool
+        ensures { result ≡ withinRun self.from self.units c }
+    {
+        self.from <= c && c - self.from < self.units
     }
-    false
+
+    // Whether all n data units are named.
+    fn names_all(self, n: usize) -> bool
+        ensures { result ≡ true → (j : ℕ) → j < n → withinRun self.from self.units j ≡ true }
+    {
+        self.from == 0 && n <= self.units
+    }
+
+    // Where the named bytes of data unit j begin in the bytes to write. The start of another is not read.
+    fn byte_start(self, u: usize, j: usize) -> usize
+        requires sizes { (self.group_at ≤ 17592186044416) × (u ≤ 4096) × (self.lo ≤ u) × (j < 16) }
+        requires after { withinRun self.from self.units j ≡ true → self.bytes_at ≤ self.group_at + (u * j + self.lo) }
+        ensures { result ≡ byte_start u self.group_at self.bytes_at self.from self.units self.lo j }
+    {
+        if self.names(j) {
+            return self.group_at + (u * j + self.lo) - self.bytes_at;
+        }
+        0
+    }
 }
 
 // ---- where the data lie
+
+// The starts of the first n of 16 runs, each by its number.
+fn starts_by<F: Fn(usize) -> usize>(n: usize, start: F) -> [usize; 16]
+    requires few { n ≤ 16 }
+    requires callable { (j : ℕ) → j < n → F.pre start j }
+    ensures { (j : ℕ) → j < n → F.post start j (get_or result j 0) }
+{
+    let mut r = [0usize; 16];
+    for j in 0..n {
+        r[j] = start(j);
+    }
+    r
+}
 
 // Where the n data units begin in the image, from unit offset lo on.
 pub fn image_starts(p: Plan, size: usize, lo: usize) -> [usize; 16]
     requires { Fits p size × (lo ≤ p.u) }
     ensures { Begins p lo result }
 {
-    let n = p.n;
-    let at = p.at;
-    let mut r = [0usize; 16];
-    for j in 0..n {
-        r[j] = at[j] + lo;
-    }
-    r
+    starts_by(p.n, |j| p.at[j] + lo)
 }
 
-// Where the named bytes of data unit j begin in the bytes to write.
-fn byte_start(u: usize, s: usize, a: usize, from: usize, units: usize, lo: usize, j: usize) -> usize
-    requires { (s ≤ 17592186044416) × (u ≤ 4096) × (lo ≤ u) × (j < 16) × (withinRun from units j ≡ true → a ≤ s + (u * j + lo)) }
-    ensures { result ≡ byte_start u s a from units lo j }
+// Where the named bytes of the data units begin in the bytes to write.
+fn byte_starts(p: Plan, run: Run) -> [usize; 16]
+    requires { (p.n ≤ 16) × (run.group_at ≤ 17592186044416) × (p.u ≤ 4096) × (run.lo ≤ p.u) × ((j : ℕ) → withinRun run.from run.units j ≡ true → run.bytes_at ≤ run.group_at + (p.u * j + run.lo)) }
+    ensures { (j : ℕ) → j < p.n → get_or result j 0 ≡ byte_start p.u run.group_at run.bytes_at run.from run.units run.lo j }
 {
-    if within(from, units, j) {
-        return s + (u * j + lo) - a;
-    }
-    0
+    starts_by(p.n, |j| run.byte_start(p.u, j))
 }
 
-fn byte_starts(
-    n: usize,
-    u: usize,
-    s: usize,
-    a: usize,
-    from: usize,
-    units: usize,
-    lo: usize,
-) -> [usize; 16]
-    requires { (n ≤ 16) × (s ≤ 17592186044416) × (u ≤ 4096) × (lo ≤ u) × ((j : ℕ) → withinRun from units j ≡ true → a ≤ s + (u * j + lo)) }
-    ensures { (j : ℕ) → j < n → get_or result j 0 ≡ byte_start u s a from units lo j }
+// Where a missing data unit is kept in the scratch. The start of another is not read.
+fn lost_start(p: &Plan, j: usize) -> usize
+    requires { Right p.now × (j < p.now.n) }
+    ensures { result ≡ lost_start p.now j }
 {
-    let mut r = [0usize; 16];
-    for j in 0..n {
-        r[j] = byte_start(u, s, a, from, units, lo, j);
-    }
-    r
-}
-
-// Where a missing data unit is kept in the scratch.
-fn lost_start(missing: bool, rank: usize) -> usize
-    requires { missing ≡ true → rank < 3 }
-    ensures { result ≡ pick missing (rank * 4096) 0 }
-{
-    if missing {
-        return rank * 4096;
+    if p.missing[j] {
+        return p.rank[j] * 4096;
     }
     0
 }
@@ -85,71 +102,38 @@ fn lost_starts(p: Plan) -> [usize; 16]
     requires { Right p }
     ensures { (j : ℕ) → j < p.n → get_or result j 0 ≡ lost_start p j }
 {
-    let n = p.n;
-    let missing = p.missing;
-    let rank = p.rank;
-    let mut r = [0usize; 16];
-    for j in 0..n {
-        r[j] = lost_start(missing[j], rank[j]);
-    }
-    r
+    starts_by(p.n, |j| lost_start(&p, j))
 }
 
 // ---- the data
 
 // Whether data unit c is stored: it is present, and named.
-fn stores(p: Plan, from: usize, units: usize, c: usize) -> bool
+fn stores(p: Plan, run: Run, c: usize) -> bool
     requires { (c < p.n) × (p.n ≤ 16) }
-    ensures { result ≡ stores_in p (withinRun from units) c }
+    ensures { result ≡ stores_in p (withinRun run.from run.units) c }
 {
-    let missing = p.missing;
-    if missing[c] {
-        return false;
-    }
-    within(from, units, c)
+    !p.missing[c] && run.names(c)
 }
 
 // The bytes of data unit c at its home, where they are named and it is present.
-fn store_unit(
-    p: Plan,
-    image: &mut [u8],
-    bytes: &[u8],
-    starts: [usize; 16],
-    from: usize,
-    units: usize,
-    lo: usize,
-    len: usize,
-    c: usize,
-)
-    requires { Fits p (length image.old) × (lo + len ≤ p.u) × (c < p.n) × Starts (length bytes.now) starts p.n len }
-    ensures { image.new ≡ pick (stores_in p (withinRun from units) c)
-        (run_set (at_of p c + lo) len (run_of bytes.now (get_or starts c 0)) image.old) image.old }
+fn store_unit(p: Plan, image: &mut [u8], bytes: &[u8], starts: [usize; 16], run: Run, c: usize)
+    requires { Fits p (length image.old) × (run.lo + run.len ≤ p.u) × (c < p.n) × Starts (length bytes.now) starts p.n run.len }
+    ensures { image.new ≡ pick (stores_in p (withinRun run.from run.units) c)
+        (run_set (at_of p c + run.lo) run.len (run_of bytes.now (get_or starts c 0)) image.old) image.old }
 {
-    if !stores(p, from, units, c) {
-        return;
+    if stores(p, run, c) {
+        runs::put_run(image, p.at[c] + run.lo, bytes, starts[c], run.len);
     }
-    let at = p.at;
-    let to = at[c] + lo;
-    let start = starts[c];
-    runs::put_run(image, to, bytes, start, len);
 }
 
-fn store_data(
-    p: Plan,
-    image: &mut [u8],
-    bytes: &[u8],
-    starts: [usize; 16],
-    from: usize,
-    units: usize,
-    lo: usize,
-    len: usize,
-)
-    requires { Fits p (length image.old) × (lo + len ≤ p.u) × Starts (length bytes.now) starts p.n len }
-    ensures { image.new ≡ paint (stores_in p (withinRun from units)) (λ c. at_of p c + lo) len (λ c. run_of bytes.now (get_or starts c 0)) p.n image.old }
+// This loop and the three of its form below stay apart: each contract says which runs of which units are stored, and a loop over a closure could say
+// no more than that its calls ran in turn.
+fn store_data(p: Plan, image: &mut [u8], bytes: &[u8], starts: [usize; 16], run: Run)
+    requires { Fits p (length image.old) × (run.lo + run.len ≤ p.u) × Starts (length bytes.now) starts p.n run.len }
+    ensures { image.new ≡ paint (stores_in p (withinRun run.from run.units)) (λ c. at_of p c + run.lo) run.len (λ c. run_of bytes.now (get_or starts c 0)) p.n image.old }
 {
-    let n = p.n;
-    for c in 0..n {
-        store_unit(p, image, bytes, starts, from, units, lo, len, c);
+    for c in 0..p.n {
+        store_unit(p, image, bytes, starts, run, c);
     }
 }
 
@@ -169,33 +153,23 @@ fn put_whole(
     ensures { image.new ≡ pick (standing p i) (run_set (parity_at p lo i) len (whole_parity p bytes.now starts i) image.old) image.old }
 {
     let c = p.n + i;
-    let missing = p.missing;
-    if missing[c] {
+    if p.missing[c] {
         return;
     }
-    let at = p.at;
-    let codes = p.codes;
-    let coefs = plan::line(codes, i);
-    kernel::combine_put(image, at[c] + lo, bytes, &starts, &coefs, p.n, len);
+    let coefs = plan::line(p.codes, i);
+    kernel::combine_put(image, p.at[c] + lo, bytes, &starts, &coefs, p.n, len);
 }
 
 fn put_wholes(p: Plan, image: &mut [u8], bytes: &[u8], starts: [usize; 16], lo: usize, len: usize)
     requires { Fits p (length image.old) × (lo + len ≤ p.u) × Starts (length bytes.now) starts p.n len }
     ensures { image.new ≡ paint (standing p) (parity_at p lo) len (whole_parity p bytes.now starts) p.k image.old }
 {
-    let k = p.k;
-    for i in 0..k {
+    for i in 0..p.k {
         put_whole(p, image, bytes, starts, lo, len, i);
     }
 }
 
 // ---- parity of another run, from the data in the image and the missing ones in the scratch
-
-fn keep(on: bool, x: u8) -> u8
-    ensures { result ≡ pick on x 0 }
-{
-    if on { x } else { 0 }
-}
 
 // A row of coefficients in two: those of the data that are present, and those of the missing ones.
 #[derive(Clone, Copy)]
@@ -211,8 +185,8 @@ fn halved(row: [u8; 16], gone: [bool; 19], n: usize) -> Halves
     let mut present = [0u8; 16];
     let mut missing = [0u8; 16];
     for j in 0..n {
-        present[j] = keep(!gone[j], row[j]);
-        missing[j] = keep(gone[j], row[j]);
+        present[j] = if gone[j] { 0 } else { row[j] };
+        missing[j] = if gone[j] { row[j] } else { 0 };
     }
     Halves { present, missing }
 }
@@ -230,13 +204,10 @@ fn put_around(
     requires { Right p × (len ≤ 4096) × (to + len ≤ length image.old) × ((j : ℕ) → j < p.n → ApartIn (get_or starts j 0) to len (length image.old)) × (length lost.now ≡ 12288) }
     ensures { image.new ≡ run_set to len (around_sum p image.old lost.now starts row) image.old }
 {
-    let gone = p.missing;
-    let parts = halved(row, gone, p.n);
-    let present = parts.present;
-    let missing = parts.missing;
+    let halves = halved(row, p.missing, p.n);
     let kept = lost_starts(p);
-    kernel::combine_in(image, to, &starts, &present, p.n, len);
-    kernel::combine(image, to, lost, &kept, &missing, p.n, len);
+    kernel::combine_in(image, to, &starts, &halves.present, p.n, len);
+    kernel::combine(image, to, lost, &kept, &halves.missing, p.n, len);
 }
 
 // Parity i at its home, where it is present.
@@ -253,14 +224,11 @@ pub fn put_parity(
     ensures { image.new ≡ pick (standing p i) (run_set (parity_at p lo i) len (parity_over p image.old lost.now lo i) image.old) image.old }
 {
     let c = p.n + i;
-    let missing = p.missing;
-    if missing[c] {
+    if p.missing[c] {
         return;
     }
-    let at = p.at;
-    let to = at[c] + lo;
-    let codes = p.codes;
-    let row = plan::line(codes, i);
+    let to = p.at[c] + lo;
+    let row = plan::line(p.codes, i);
     if p.gone == 0 {
         kernel::combine_in(image, to, &starts, &row, p.n, len);
         return;
@@ -273,8 +241,7 @@ fn put_parities(p: Plan, image: &mut [u8], lost: &[u8], lo: usize, len: usize)
     ensures { image.new ≡ paint (standing p) (parity_at p lo) len (parity_over p image.old lost.now lo) p.k image.old }
 {
     let starts = image_starts(p, image.len(), lo);
-    let k = p.k;
-    for i in 0..k {
+    for i in 0..p.k {
         put_parity(p, image, lost, starts, lo, len, i);
     }
 }
@@ -287,147 +254,62 @@ fn keep_unit(
     image: &[u8],
     bytes: &[u8],
     starts: [usize; 16],
-    from: usize,
-    units: usize,
-    lo: usize,
-    len: usize,
+    run: Run,
     lost: &mut [u8],
     c: usize,
 )
-    requires { Fits p (length image.now) × (lo + len ≤ p.u) × (c < p.n) × Starts (length bytes.now) starts p.n len × (length lost.old ≡ 12288) }
+    requires { Fits p (length image.now) × (run.lo + run.len ≤ p.u) × (c < p.n) × Starts (length bytes.now) starts p.n run.len × (length lost.old ≡ 12288) }
     ensures { lost.new ≡ pick (miss_of p c)
-        (run_set (rank_place p c) len (kept_run p image.now bytes.now starts from units lo c) lost.old) lost.old }
+        (run_set (rank_place p c) run.len (kept_run p image.now bytes.now starts run.from run.units run.lo c) lost.old) lost.old }
 {
-    let missing = p.missing;
-    if missing[c] {
-        let rank = p.rank;
-        let to = rank[c] * 4096;
-        if within(from, units, c) {
-            let start = starts[c];
-            runs::put_run(lost, to, bytes, start, len);
+    if p.missing[c] {
+        let to = p.rank[c] * 4096;
+        if run.names(c) {
+            runs::put_run(lost, to, bytes, starts[c], run.len);
             return;
         }
-        runs::rebuild_run(p, image, lo, c, lost, to, len);
+        runs::rebuild_run(p, image, run.lo, c, lost, to, run.len);
     }
 }
 
-fn keep_lost(
-    p: Plan,
-    image: &[u8],
-    bytes: &[u8],
-    starts: [usize; 16],
-    from: usize,
-    units: usize,
-    lo: usize,
-    len: usize,
-    lost: &mut [u8],
-)
-    requires { Fits p (length image.now) × (lo + len ≤ p.u) × Starts (length bytes.now) starts p.n len × (length lost.old ≡ 12288) }
-    ensures { lost.new ≡ paint (miss_of p) (rank_place p) len (kept_run p image.now bytes.now starts from units lo) p.n lost.old }
+fn keep_lost(p: Plan, image: &[u8], bytes: &[u8], starts: [usize; 16], run: Run, lost: &mut [u8])
+    requires { Fits p (length image.now) × (run.lo + run.len ≤ p.u) × Starts (length bytes.now) starts p.n run.len × (length lost.old ≡ 12288) }
+    ensures { lost.new ≡ paint (miss_of p) (rank_place p) run.len (kept_run p image.now bytes.now starts run.from run.units run.lo) p.n lost.old }
 {
-    let n = p.n;
-    for c in 0..n {
-        keep_unit(p, image, bytes, starts, from, units, lo, len, lost, c);
+    for c in 0..p.n {
+        keep_unit(p, image, bytes, starts, run, lost, c);
     }
 }
 
 // ---- a run
 
-// Where every data unit is named, whatever is missing.
-fn write_whole(
-    p: Plan,
-    image: &mut [u8],
-    bytes: &[u8],
-    s: usize,
-    a: usize,
-    from: usize,
-    units: usize,
-    lo: usize,
-    len: usize,
-)
-    requires { Fits p (length image.old) × Apart p × RunFits p s a from units lo len (length bytes.now) × ((j : ℕ) → j < p.n → withinRun from units j ≡ true) }
-    ensures { image.new ≡ run_written p image.old bytes.now s a from units lo len }
-{
-    let starts = byte_starts(p.n, p.u, s, a, from, units, lo);
-    store_data(p, image, bytes, starts, from, units, lo, len);
-    put_wholes(p, image, bytes, starts, lo, len);
-}
-
-// Where nothing is missing.
-fn write_healthy(
-    p: Plan,
-    image: &mut [u8],
-    bytes: &[u8],
-    s: usize,
-    a: usize,
-    from: usize,
-    units: usize,
-    lo: usize,
-    len: usize,
-)
-    requires { Fits p (length image.old) × Apart p × RunFits p s a from units lo len (length bytes.now) × (p.gone ≡ 0) }
-    ensures { image.new ≡ run_written p image.old bytes.now s a from units lo len }
-{
-    let starts = byte_starts(p.n, p.u, s, a, from, units, lo);
-    let nothing = [0u8; 1];
-    store_data(p, image, bytes, starts, from, units, lo, len);
-    put_parities(p, image, &nothing, lo, len);
-}
-
 // Where something is missing. The scratch is made here, so that no other write clears it.
-fn write_around(
-    p: Plan,
-    image: &mut [u8],
-    bytes: &[u8],
-    s: usize,
-    a: usize,
-    from: usize,
-    units: usize,
-    lo: usize,
-    len: usize,
-)
-    requires { Fits p (length image.old) × Apart p × RunFits p s a from units lo len (length bytes.now) }
-    ensures { image.new ≡ run_written p image.old bytes.now s a from units lo len }
+fn write_around(p: Plan, image: &mut [u8], bytes: &[u8], starts: [usize; 16], run: Run)
+    requires fits { Fits p (length image.old) × Apart p × Suits p run (length bytes.now) }
+    requires begin { (j : ℕ) → j < p.n → get_or starts j 0 ≡ byte_start p.u run.group_at run.bytes_at run.from run.units run.lo j }
+    ensures { image.new ≡ written p image.old bytes.now run }
 {
-    let starts = byte_starts(p.n, p.u, s, a, from, units, lo);
     let mut lost = [0u8; 12288];
-    keep_lost(p, image, bytes, starts, from, units, lo, len, &mut lost);
-    store_data(p, image, bytes, starts, from, units, lo, len);
-    put_parities(p, image, &lost, lo, len);
+    keep_lost(p, image, bytes, starts, run, &mut lost);
+    store_data(p, image, bytes, starts, run);
+    put_parities(p, image, &lost, run.lo, run.len);
 }
 
-fn all_named(n: usize, from: usize, units: usize) -> bool
-    ensures { result ≡ true → (j : ℕ) → j < n → withinRun from units j ≡ true }
+// Writes a run: where it names every data unit, whatever is missing; where nothing is missing; and where something is.
+pub fn write_run(p: Plan, image: &mut [u8], bytes: &[u8], run: Run)
+    requires { Fits p (length image.old) × Apart p × Suits p run (length bytes.now) }
+    ensures { image.new ≡ written p image.old bytes.now run }
 {
-    if from == 0 {
-        return n <= units;
-    }
-    false
-}
-
-// Writes to the unit offsets lo .. lo + len, where the data units from .. from + units are named. The group's data begin at file byte s, the
-// bytes to write at file byte a.
-pub fn write_run(
-    p: Plan,
-    image: &mut [u8],
-    bytes: &[u8],
-    s: usize,
-    a: usize,
-    from: usize,
-    units: usize,
-    lo: usize,
-    len: usize,
-)
-    requires { Fits p (length image.old) × Apart p × RunFits p s a from units lo len (length bytes.now) }
-    ensures { image.new ≡ run_written p image.old bytes.now s a from units lo len }
-{
-    if all_named(p.n, from, units) {
-        write_whole(p, image, bytes, s, a, from, units, lo, len);
+    let starts = byte_starts(p, run);
+    if run.names_all(p.n) {
+        store_data(p, image, bytes, starts, run);
+        put_wholes(p, image, bytes, starts, run.lo, run.len);
         return;
     }
     if p.gone == 0 {
-        write_healthy(p, image, bytes, s, a, from, units, lo, len);
+        store_data(p, image, bytes, starts, run);
+        put_parities(p, image, &[], run.lo, run.len);
         return;
     }
-    write_around(p, image, bytes, s, a, from, units, lo, len);
+    write_around(p, image, bytes, starts, run);
 }

@@ -4,8 +4,8 @@ use Prim.Native.Nat.{ℕ, min}
 use Rattle.groups.specs.Read.{unit_none, unit_run}
 use Rattle.groups.proofs.read_unit.Goals as goal
 
-pub returns-then-hi-lo : goal.returns-then-hi-lo
-returns-then-hi-lo c = unit_none _ _ _ _ _ _ _ _ c.over-lo.ensures (c.least-hi.ensures ∙ ap (λ (x : ℕ). min x c.args.p.u) c.over.ensures) c.if-hi-lo.true
+pub returns-then-lo-hi : goal.returns-then-lo-hi
+returns-then-lo-hi c = unit_run _ _ _ _ _ _ _ _ _ c.saturating_sub-lo.ensures (c.min-hi.ensures ∙ ap (λ (x : ℕ). min x c.args.p.u) c.saturating_sub.ensures) c.if-lo-hi.true c.read_run.ensures
 
-pub returns : goal.returns
-returns c = unit_run _ _ _ _ _ _ _ _ _ c.over-lo.ensures (c.least-hi.ensures ∙ ap (λ (x : ℕ). min x c.args.p.u) c.over.ensures) c.if-hi-lo.false c.read_run.ensures
+pub returns-else-lo-hi : goal.returns-else-lo-hi
+returns-else-lo-hi c = unit_none _ _ _ _ _ _ _ _ c.saturating_sub-lo.ensures (c.min-hi.ensures ∙ ap (λ (x : ℕ). min x c.args.p.u) c.saturating_sub.ensures) c.if-lo-hi.false

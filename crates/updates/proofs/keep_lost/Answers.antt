@@ -1,21 +1,12 @@
 -- `updates::keep_lost`. The loop keeps: the missing ones of the first c data units are kept.
 use mathlib.Core.Path.{refl, ◌∙◌}
 use native.Mathlib.Omega.{arith}
-use Rattle.runs.specs.Run.{paint, paint_turn, paint-end}
+use Rattle.runs.specs.Run.{paint, paint_turn}
 use Rattle.updates.proofs.keep_lost.Goals as goal
 
 pub loop-c-init : goal.loop-c-init
 unfolding paint
 loop-c-init c = (omega arith, refl, refl)
 
-pub keep_unit-requires : goal.keep_unit-requires
-keep_unit-requires c = (c.requires.0, c.requires.1, c.loop-c-test.true, c.requires.2, c.loop-c.invariant.1 ∙ c.requires.3)
-
 pub loop-c-preserved : goal.loop-c-preserved
 loop-c-preserved c = (omega arith, c.keep_unit.auto.lost ∙ c.loop-c.invariant.1, paint_turn _ _ _ _ _ _ _ _ c.loop-c.invariant.2 c.keep_unit.ensures)
-
-pub shape_of-lost : goal.shape_of-lost
-shape_of-lost c = c.loop-c.invariant.1
-
-pub returns : goal.returns
-returns c = paint-end _ _ _ _ _ _ _ _ c.loop-c.invariant.2 (omega arith)

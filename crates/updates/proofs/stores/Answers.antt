@@ -1,19 +1,16 @@
 -- `updates::stores`. Each return is a case of the definition.
-use mathlib.Core.Path.{sym, ◌∙◌}
-use native.Mathlib.Omega.{arith}
+use mathlib.Core.Path.{sym, ap, ◌∙◌}
 use borrow.Author.Tests.{lt-ltb}
+use Rattle.std.specs.Prelude.{not}
 use Rattle.lists.specs.Pick.{pick_true}
 use Rattle.updates.specs.Steps.{absent, present}
 use Rattle.updates.specs.Writing.{stores_in}
 use Rattle.updates.proofs.stores.Goals as goal
 
-pub bounds-missing-c : goal.bounds-missing-c
-bounds-missing-c c = omega (arith, c.requires.0, c.requires.1)
-
-pub returns-then-missing-c : goal.returns-then-missing-c
+pub returns-then-not-p-c : goal.returns-then-not-p-c
 unfolding stores_in
-returns-then-missing-c c = sym (absent _ _ c.if-missing-c.true)
+returns-then-not-p-c c = c.names.ensures ∙ sym (present _ _ c.if-not-p-c.true ∙ pick_true _ _ _ (lt-ltb _ _ c.requires.0))
 
-pub returns : goal.returns
+pub returns-else-not-p-c : goal.returns-else-not-p-c
 unfolding stores_in
-returns c = c.within.ensures ∙ sym (present _ _ c.if-missing-c.false ∙ pick_true _ _ _ (lt-ltb _ _ c.requires.0))
+returns-else-not-p-c c = ap not c.if-not-p-c.false ∙ sym (absent _ _ c.if-not-p-c.false)

@@ -1,22 +1,14 @@
 -- `updates::write_around`. What is missing, then the data, then the parities (`lost-run`).
 use mathlib.Core.Path.{refl}
-use native.Mathlib.Omega.{arith}
-use Rattle.runs.specs.Steps.{fits_at}
-use mathlib.Core.Logic.{inr}
 use Rattle.updates.specs.Made.{starts_fit, lost-run}
 use Rattle.updates.proofs.write_around.Goals as goal
 
-pub byte_starts-starts-requires : goal.byte_starts-starts-requires
-byte_starts-starts-requires c = (c.requires.0.right.solvable.data_max, c.requires.2.s-max, c.requires.0.u-max, omega (arith, c.requires.2.room), c.requires.2.first)
-
 pub keep_lost-requires : goal.keep_lost-requires
-keep_lost-requires c = (c.requires.0, c.requires.2.room, starts_fit c.args.p _ _ _ _ _ _ c.requires.0 c.requires.2 c.byte_starts-starts.result c.byte_starts-starts.ensures, refl)
+keep_lost-requires c = let f = c.requires.fits in (f.0, f.2.room, starts_fit c.args.p _ _ _ _ _ _ f.0 f.2 c.args.starts c.requires.begin, refl)
 
 pub store_data-requires : goal.store_data-requires
-store_data-requires c = (c.requires.0, c.requires.2.room, starts_fit c.args.p _ _ _ _ _ _ c.requires.0 c.requires.2 c.byte_starts-starts.result c.byte_starts-starts.ensures)
-
-pub put_parities-requires : goal.put_parities-requires
-put_parities-requires c = (fits_at c.requires.0 c.store_data.auto.image, c.requires.1, c.requires.2.room, inr c.keep_lost.auto.lost)
+store_data-requires c = let f = c.requires.fits in (f.0, f.2.room, starts_fit c.args.p _ _ _ _ _ _ f.0 f.2 c.args.starts c.requires.begin)
 
 pub returns : goal.returns
-returns c = lost-run _ _ _ c.byte_starts-starts.result _ _ _ _ _ _ c.requires.0 c.requires.1 c.requires.2 c.byte_starts-starts.ensures _ _ c.store_data.ensures _ _ refl c.keep_lost.ensures c.put_parities.ensures
+returns c = let f = c.requires.fits in
+    lost-run _ _ _ c.args.starts _ _ _ _ _ _ f.0 f.1 f.2 c.requires.begin _ _ c.store_data.ensures _ _ refl c.keep_lost.ensures c.put_parities.ensures
