@@ -4,7 +4,7 @@ use Rattle.std.proofs.Common.{sym, ap, ap₂, ◌∙◌, subst, le_trans, le_ref
 use Prim.Native.Nat.{ℕ, zero, suc, ◌+◌, ◌-◌, ◌*◌, ◌%◌, ◌^◌, ◌<◌, ◌≤◌}
 use Rattle.std.proofs.Math.Nat.{le-suc, div-eq_of_lt, pow-le-pow_right}
 use Rattle.field.specs.Ring.{⊕-zero}
-use Rattle.std.proofs.Math.ListN.{get_or}
+use Rattle.std.proofs.Math.ListN.{length, get_or}
 use Rattle.field.specs.Byte.{◌⊕◌, scale, mul}
 use Rattle.field.proofs.Laws.{zero-mul}
 use Rattle.field.specs.Sum.{sum_to, sum_cong, sum-zero}
@@ -13,6 +13,8 @@ use Rattle.kernel.specs.Horner.{poly_cong, plane, horner}
 use Rattle.kernel.specs.Plan.{picked, planned, Reach}
 use Rattle.kernel.specs.Fill.{Planes}
 use Rattle.kernel.specs.Combine.{sum_at, span_over, span_again}
+use Rattle.kernel.specs.Schedule.{Reaches, Schedules, scheduled}
+use Rattle.kernel.specs.declared.schedule.Schedule.{Schedule}
 use Rattle.kernel.specs.InPlace.{Apart}
 
 -- where every factor is 0 nothing is added
@@ -65,6 +67,13 @@ module _ (n : ℕ) (coefs starts src list counts : List ℕ) (top : ℕ) (ps : P
         inside = omega arith;
         ends = λ q j. let u : get_or list (k * 16 + q) 0 ≤ len - end = p.under (len - end) (λ j m. let y = g j m in omega arith) q j in let v = p.few in let y = g 0 (omega arith) in omega arith;
       }
+
+module _ (n : ℕ) (coefs starts : List ℕ) (s : Schedule) (are : Schedules starts coefs n s) where
+  pub scheduled-sum : (src : List ℕ) (place : ℕ) → ((x : ℕ) → get_or src x 0 < 256) → scheduled src s place ≡ sum_at n coefs starts src place
+  scheduled-sum src place b = planned-sum n coefs starts src s.list.now s.counts s.top are.planes place s.top_max are.factors b
+
+  pub reaches : (src : List ℕ) (end : ℕ) → n ≤ 16 → ((j : ℕ) → j < n → get_or starts j 0 + end ≤ length src) → Reaches s end (length src)
+  reaches src end h g = record { each = reach n coefs starts src s.list.now s.counts s.top are.planes end (length src) h s.top_max g }
 
 module _ (n : ℕ) (coefs starts : List ℕ) (at len size : ℕ) (apart : (j : ℕ) → j < n → Apart (get_or starts j 0) at len size) where
   -- the sum reads nothing that lies in the bytes written

@@ -12,21 +12,6 @@ use Rattle.kernel.proofs.add_block.Goals as goal
 pub loop-i-init : goal.loop-i-init
 loop-i-init c = (omega arith, span_none _ c.args.o c.args.out.now (omega arith))
 
-pub overflow_add-out : goal.overflow_add-out
-overflow_add-out c = omega arith
-
-pub bounds-out-o : goal.bounds-out-o
-bounds-out-o c = omega arith
-
-pub bounds-b-i : goal.bounds-b-i
-bounds-b-i c = omega arith
-
-pub overflow_add-out-in-loop-i : goal.overflow_add-out-in-loop-i
-overflow_add-out-in-loop-i c = omega arith
-
-pub bounds-out-o-in-loop-i : goal.bounds-out-o-in-loop-i
-bounds-out-o-in-loop-i c = omega arith
-
 pub loop-i-preserved : goal.loop-i-preserved
 unfolding ◌⊕◌
 loop-i-preserved c = let a = c.args in
@@ -36,9 +21,6 @@ loop-i-preserved c = let a = c.args in
       span_step _ a.o (a.o + l.i) l.out _ (omega arith) (omega arith) (omega arith) l.invariant.1
           (ap₂ bit_xor (l.invariant.1.after (a.o + l.i) (le_refl _)) (ap (λ (z : ℕ). get_or a.b.now z 0) (let w : l.i ≡ a.o + l.i - a.o = omega arith in w))),
     )
-
-pub shape_of-out : goal.shape_of-out
-shape_of-out c = c.loop-i.invariant.1.len
 
 pub returns : goal.returns
 returns c = let a = c.args in

@@ -1,37 +1,17 @@
--- `kernel::put_block`. The loop keeps: i bytes from o on are the block's.
-use mathlib.Core.Path.{◌≡◌, ap, subst}
-use Prim.Native.Nat.{ℕ, ◌+◌, ◌-◌}
-use native.Mathlib.Omega.{arith}
-use lib.ListN.{get_or}
-use Rattle.lists.specs.Span.{Span, span_none, span_step}
+-- `kernel::put_block`. A copy into a part of a slice leaves the bytes around it (`put_span`).
+use Rattle.std.specs.Prelude.{◌≡◌, ℕ, ◌+◌, ◌-◌, length, get_or}
+use Rattle.std.proofs.Common.{arith}
+use Rattle.std.proofs.Math.Path.{subst⁻¹}
+use Rattle.std.proofs.lemmas.List.{places}
+use Rattle.lists.specs.Span.{Span, span_cong}
+use Rattle.kernel.proofs.Put.{put, put_span}
 use Rattle.kernel.proofs.put_block.Goals as goal
-
-pub loop-i-init : goal.loop-i-init
-loop-i-init c = (omega arith, span_none _ c.args.o c.args.out.now (omega arith))
-
-pub bounds-b-i : goal.bounds-b-i
-bounds-b-i c = omega arith
-
-pub overflow_add-out : goal.overflow_add-out
-overflow_add-out c = omega arith
-
-pub bounds-out-o : goal.bounds-out-o
-bounds-out-o c = omega arith
-
-pub loop-i-preserved : goal.loop-i-preserved
-loop-i-preserved c = let a = c.args in
-    let l = c.loop-i in
-    let n = l.invariant.1.len in (
-      omega arith,
-      span_step _ a.o (a.o + l.i) l.out _ (omega arith) (omega arith) (omega arith) l.invariant.1
-          (ap (λ (z : ℕ). get_or a.b.now z 0) (let w : l.i ≡ a.o + l.i - a.o = omega arith in w)),
-    )
-
-pub shape_of-out : goal.shape_of-out
-shape_of-out c = c.loop-i.invariant.1.len
 
 pub returns : goal.returns
 returns c = let a = c.args in
-    let l = c.loop-i in
-    let e : l.i ≡ a.m = omega arith in
-    subst (λ (z : ℕ). Span (λ y. get_or a.b.now (y - a.o) 0) a.o (a.o + z) a.out.now l.out) e l.invariant.1
+    let s = c.copy_from_slice.new.self in
+    let e : a.o + a.m - a.o ≡ a.m = omega arith in
+    let n : length s ≡ a.m = search (arith, places, c.copy_from_slice.ensures.after) in
+    subst⁻¹ (λ (k : ℕ). Span (λ y. get_or a.b.now (y - a.o) 0) a.o (a.o + a.m) a.out.now (put a.o k a.out.now s)) e
+    (span_cong (λ y. get_or s (y - a.o) 0) (λ y. get_or a.b.now (y - a.o) 0) a.o (a.o + a.m)
+    (λ y i j. rw c.copy_from_slice.ensures.after (search (arith, places))) (put_span a.o a.m a.out.now s (omega arith) n))

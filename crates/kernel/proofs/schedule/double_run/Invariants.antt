@@ -1,9 +1,9 @@
 use mathlib.Core.Path.{◌≡◌}
-use Prim.Native.Nat.{◌-◌, ◌≤◌}
+use Prim.Native.Nat.{◌≤◌}
 use lib.ListN.{length, get_or}
 use Rattle.field.specs.Byte.{double}
 use Rattle.lists.specs.Span.{Span}
-use Rattle.kernel.proofs.double_run.Given as goal
+use Rattle.kernel.proofs.schedule.double_run.Given as goal
 
 abbrev pub invariant-loop-i : goal.invariant-loop-i
 invariant-loop-i l = (l.i ≤ l.m) × (length l.acc ≡ 192) × Span (λ x. double (get_or l.initial.acc x 0)) 0 l.i l.initial.acc l.acc

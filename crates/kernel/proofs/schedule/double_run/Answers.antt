@@ -1,11 +1,11 @@
--- `kernel::double_run`. The loop keeps: the bytes before i are doubled, the others as they were.
+-- `kernel::schedule::double_run`. The loop keeps: the bytes before i are doubled, the others as they were.
 use mathlib.Core.Path.{◌≡◌, refl, ap, ◌∙◌, subst}
 use Prim.Native.Nat.{ℕ}
 use native.Mathlib.Omega.{arith}
 use lib.ListN.{get_or, length-set}
 use Rattle.field.specs.Byte.{double}
 use Rattle.lists.specs.Span.{Span, span_none, span_step}
-use Rattle.kernel.proofs.double_run.Goals as goal
+use Rattle.kernel.proofs.schedule.double_run.Goals as goal
 
 pub loop-i-init : goal.loop-i-init
 loop-i-init c = (omega arith, c.requires.0, span_none _ 0 _ refl)

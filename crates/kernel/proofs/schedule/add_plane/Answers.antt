@@ -1,4 +1,4 @@
--- `kernel::add_plane`. The loop keeps: the first q runs are added. A turn is `plane_turn`.
+-- `kernel::schedule::add_plane`. The loop keeps: the first q runs are added. A turn is `plane_turn`.
 use mathlib.Core.Path.{◌≡◌, refl, ◌∙◌, subst}
 use Prim.Native.Nat.{ℕ, ◌+◌}
 use native.Mathlib.Omega.{arith}
@@ -6,7 +6,7 @@ use lib.ListN.{get_or}
 use Rattle.field.specs.Byte.{◌⊕◌}
 use Rattle.lists.specs.Span.{Span}
 use Rattle.kernel.specs.Plan.{picked, plane-none, plane_turn}
-use Rattle.kernel.proofs.add_plane.Goals as goal
+use Rattle.kernel.proofs.schedule.add_plane.Goals as goal
 
 pub loop-q-init : goal.loop-q-init
 loop-q-init c = let a = c.args in

@@ -1,35 +1,14 @@
--- `kernel::fill_lowest`. The loop keeps: the list names those of the first j runs that have the digit. A turn is `plane-step`.
+-- `kernel::schedule::fill_lowest`. The loop keeps: the list names those of the first j runs that have the digit. A turn is `plane-step`.
 use mathlib.Core.Path.{◌≡◌, ◌∙◌, subst}
 use Prim.Native.Nat.{ℕ, ◌+◌}
 use native.Mathlib.Nat.{zero-add}
 use native.Mathlib.Omega.{arith}
 use lib.ListN.{get_or, set, length-set}
 use Rattle.kernel.specs.Fill.{Plane, plane-start, plane-step}
-use Rattle.kernel.proofs.fill_lowest.Goals as goal
+use Rattle.kernel.proofs.schedule.fill_lowest.Goals as goal
 
 pub loop-j-init : goal.loop-j-init
 loop-j-init c = (omega arith, c.requires.0, plane-start c.args.starts.now c.args.coefs.now 0 c.args.list.now)
-
-pub offset_bounds-starts-j : goal.offset_bounds-starts-j
-offset_bounds-starts-j c = omega arith
-
-pub bounds-starts-j : goal.bounds-starts-j
-bounds-starts-j c = omega arith
-
-pub offset_bounds-list-c : goal.offset_bounds-list-c
-offset_bounds-list-c c = omega arith
-
-pub bounds-list-c : goal.bounds-list-c
-bounds-list-c c = omega arith
-
-pub bounds-coefs-j : goal.bounds-coefs-j
-bounds-coefs-j c = omega arith
-
-pub digit-c-requires : goal.digit-c-requires
-digit-c-requires c = omega arith
-
-pub overflow_add-c : goal.overflow_add-c
-overflow_add-c c = omega arith
 
 pub loop-j-preserved : goal.loop-j-preserved
 loop-j-preserved c = let a = c.args in

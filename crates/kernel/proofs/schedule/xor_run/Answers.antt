@@ -1,4 +1,4 @@
--- `kernel::xor_run`. The loop keeps: the bytes before i have the run added, the others are as they were.
+-- `kernel::schedule::xor_run`. The loop keeps: the bytes before i have the run added, the others are as they were.
 use mathlib.Core.Path.{◌≡◌, refl, ap, ◌∙◌, subst}
 use Prim.Native.Nat.{ℕ, ◌+◌}
 use native.Mathlib.Omega.{arith}
@@ -6,7 +6,7 @@ use lib.ListN.{get_or, length-set}
 use lib.Bits.{bit_xor}
 use Rattle.field.specs.Byte.{◌⊕◌}
 use Rattle.lists.specs.Span.{Span, span_none, span_step}
-use Rattle.kernel.proofs.xor_run.Goals as goal
+use Rattle.kernel.proofs.schedule.xor_run.Goals as goal
 
 pub loop-i-init : goal.loop-i-init
 loop-i-init c = (omega arith, c.requires.0, span_none _ 0 _ refl)

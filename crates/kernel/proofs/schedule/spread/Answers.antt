@@ -1,4 +1,4 @@
--- `kernel::spread`. The loop keeps: the source stands in the lists of the digits below k. A turn is `spread_step`.
+-- `kernel::schedule::spread`. The loop keeps: the source stands in the lists of the digits below k. A turn is `spread_step`.
 use mathlib.Core.Path.{◌∙◌}
 use Prim.Native.Nat.{ℕ, ◌<◌, ◌≤◌}
 use Rattle.std.specs.Prelude.{List}
@@ -6,32 +6,14 @@ use native.Mathlib.Nat.{le_refl, not-suc-le-zero}
 use native.Mathlib.Omega.{arith}
 use lib.ListN.{get_or, length-set}
 use Rattle.kernel.specs.Fill.{Spread, spread_step}
-use Rattle.kernel.proofs.spread.Goals as goal
+use Rattle.kernel.proofs.schedule.spread.Goals as goal
 
 -- the lists have room for one source more
 room : {starts coefs list counts : List ℕ} {j k : ℕ} → k < 8 → Spread starts coefs j list counts k → get_or counts k 0 ≤ j
 room h s = (s.left _ (le_refl _) h).few
 
-pub offset_bounds-starts-j : goal.offset_bounds-starts-j
-offset_bounds-starts-j c = omega arith
-
-pub bounds-starts-j : goal.bounds-starts-j
-bounds-starts-j c = omega arith
-
-pub bounds-coefs-j : goal.bounds-coefs-j
-bounds-coefs-j c = omega arith
-
 pub loop-k-init : goal.loop-k-init
 loop-k-init c = (omega arith, c.requires.0, c.requires.1, record { done = λ x h. absurd (not-suc-le-zero h); left = λ x g h. c.requires.3 x h })
-
-pub offset_bounds-counts-k : goal.offset_bounds-counts-k
-offset_bounds-counts-k c = omega arith
-
-pub bounds-counts-k : goal.bounds-counts-k
-bounds-counts-k c = omega arith
-
-pub overflow_mul-list : goal.overflow_mul-list
-overflow_mul-list c = omega arith
 
 pub overflow_add-list : goal.overflow_add-list
 overflow_add-list c = omega (arith, room c.loop-k-test.true c.loop-k.invariant.3)
@@ -42,17 +24,8 @@ offset_bounds-list-k c = omega (arith, room c.loop-k-test.true c.loop-k.invarian
 pub bounds-list-k : goal.bounds-list-k
 bounds-list-k c = omega (arith, room c.loop-k-test.true c.loop-k.invariant.3)
 
-pub digit-requires : goal.digit-requires
-digit-requires c = omega arith
-
 pub overflow_add-counts : goal.overflow_add-counts
 overflow_add-counts c = omega (arith, room c.loop-k-test.true c.loop-k.invariant.3)
-
-pub offset_bounds-counts-k-in-loop-k : goal.offset_bounds-counts-k-in-loop-k
-offset_bounds-counts-k-in-loop-k c = omega arith
-
-pub bounds-counts-k-in-loop-k : goal.bounds-counts-k-in-loop-k
-bounds-counts-k-in-loop-k c = omega arith
 
 pub loop-k-preserved : goal.loop-k-preserved
 loop-k-preserved c = let a = c.args in

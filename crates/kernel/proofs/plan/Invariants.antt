@@ -1,8 +1,0 @@
-use mathlib.Core.Path.{◌≡◌}
-use Prim.Native.Nat.{◌-◌, ◌≤◌}
-use lib.ListN.{length}
-use Rattle.kernel.specs.Fill.{Planes}
-use Rattle.kernel.proofs.plan.Given as goal
-
-abbrev pub invariant-loop-j : goal.invariant-loop-j
-invariant-loop-j l = (l.j ≤ l.n) × (length l.list ≡ 128) × (length l.counts ≡ 8) × Planes l.starts l.coefs l.j l.list l.counts 8
