@@ -15,6 +15,7 @@ use Rattle.hex_text.specs.Digit.{digit_value, digits_at, number_at}
 use Rattle.trace.specs.Fields.{separator, fields_at}
 use Rattle.trace.specs.FieldLaws.{fields_length, fields_first, fields_ended}
 use Rattle.trace.specs.Forms.{byte_count, form_of, kind_of}
+use Rattle.trace.specs.Kinds.{NoKind}
 
 -- ---- the fields of a kind
 
@@ -121,6 +122,11 @@ module _ (line : List ℕ) where
     kind_wrong t =
         sym (pick-false (both (leb (length line) 8301) (formed line)) (number_at line 0 2) 0
         (ap (both (leb (length line) 8301)) (sym same ∙ t) ∙ both_off (leb (length line) 8301)))
+
+    pub kind_unknown : 3 ≤ length line → NoKind kind → 0 ≡ kind_of line
+    unfolding fields_at
+    kind_unknown h none =
+        kind_wrong (ap (fields_at line 0) (form_none (byte_count line) kind none.0 none.1 none.2 none.3) ∙ ne_eqb 0 (length line) (λ e. omega (arith, h, e)))
 
   -- ---- a line of a kind has that kind's fields
 

@@ -1,5 +1,6 @@
 pub mod Fields
 pub mod Forms
+pub mod Kinds
 pub mod Told
 pub mod FieldLaws
 pub mod FieldLines

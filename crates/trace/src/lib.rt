@@ -6,6 +6,7 @@ ghost use Rattle.std.specs.Prelude.{◌≡◌, ◌≤◌, ◌+◌, length, take}
 ghost use Rattle.lists.specs.Put.{Put};
 ghost use Rattle.trace.specs.Fields.{fields_at, field_line, number_fields};
 ghost use Rattle.trace.specs.FieldLaws.{after, end_of};
+ghost use Rattle.trace.specs.Kinds.{number_of, kind_number, NamesKind};
 ghost use Rattle.trace.specs.Forms.{is_layout, layout_at, byte_count, form_of, kind_of};
 
 use numbers::Layout;
@@ -14,10 +15,7 @@ use numbers::Layout;
 fn separator(last: bool) -> u8
     ensures { result ≡ after last }
 {
-    if last {
-        return 10;
-    }
-    32
+    if last { b'\n' } else { b' ' }
 }
 
 // Whether from place `from` on the line has n fields of these widths, and ends with them.
@@ -26,8 +24,7 @@ pub fn has_fields(line: &[u8], from: usize, widths: [usize; 8], n: usize) -> boo
     ensures { result ≡ fields_at line.now from (take n widths) }
 {
     let mut at = from;
-    let mut i = 0;
-    while i < n {
+    for i in 0..n {
         let w = widths[i];
         if line.len() - at <= w {
             return false;
@@ -35,8 +32,7 @@ pub fn has_fields(line: &[u8], from: usize, widths: [usize; 8], n: usize) -> boo
         if !hex_text::is_digits(line, at, w) {
             return false;
         }
-        i += 1;
-        if line[at + w] != separator(i == n) {
+        if line[at + w] != separator(i + 1 == n) {
             return false;
         }
         at += w + 1;
@@ -56,12 +52,10 @@ pub fn write_fields(
     ensures { (result ≡ end_of at (take n widths)) × Put at (field_line (number_fields (take n widths) numbers)) text.old text.new }
 {
     let mut to = at;
-    let mut i = 0;
-    while i < n {
+    for i in 0..n {
         let w = widths[i];
         hex_text::write_number(numbers[i], w, text, to);
-        i += 1;
-        text[to + w] = separator(i == n);
+        text[to + w] = separator(i + 1 == n);
         to += w + 1;
     }
     to
@@ -71,47 +65,84 @@ pub fn write_fields(
 pub fn byte_count(line: &[u8]) -> usize
     ensures { result ≡ byte_count line.now }
 {
-    if line.len() < 21 {
-        return 0;
+    line.len().saturating_sub(21) / 2
+}
+
+// What an event is.
+#[derive(Clone, Copy, PartialEq, Eq, Debug)]
+pub enum Kind {
+    Write,
+    Fail,
+    Repair,
+    Read,
+}
+
+// A number that no kind has.
+#[derive(Clone, Copy, PartialEq, Eq, Debug)]
+pub struct UnknownKind;
+
+impl TryFrom<u64> for Kind {
+    type Error = UnknownKind;
+
+    ghost try_from_gives = { NamesKind };
+
+    fn try_from(number: u64) -> Result<Self, UnknownKind> {
+        match number {
+            1 => Ok(Kind::Write),
+            2 => Ok(Kind::Fail),
+            3 => Ok(Kind::Repair),
+            4 => Ok(Kind::Read),
+            _ => Err(UnknownKind),
+        }
     }
-    (line.len() - 21) / 2
+}
+
+impl From<Kind> for u64 {
+    ghost from_gives = { λ kind number. number ≡ number_of kind };
+
+    fn from(kind: Kind) -> Self {
+        match kind {
+            Kind::Write => 1,
+            Kind::Fail => 2,
+            Kind::Repair => 3,
+            Kind::Read => 4,
+        }
+    }
 }
 
 // Whether the line has the fields of an event of this kind.
-fn has_form(line: &[u8], kind: u64) -> bool
-    ensures { result ≡ fields_at line.now 0 (form_of (byte_count line.now) kind) }
+fn has_form(line: &[u8], kind: Kind) -> bool
+    ensures { result ≡ fields_at line.now 0 (form_of (byte_count line.now) (number_of kind)) }
 {
-    if kind == 1 {
-        let digits = 2 * byte_count(line);
-        return has_fields(line, 0, [2, 16, digits, 0, 0, 0, 0, 0], 3);
+    match kind {
+        Kind::Write => {
+            let digits = 2 * byte_count(line);
+            has_fields(line, 0, [2, 16, digits, 0, 0, 0, 0, 0], 3)
+        }
+        Kind::Fail => has_fields(line, 0, [2, 2, 0, 0, 0, 0, 0, 0], 2),
+        Kind::Repair => has_fields(line, 0, [2, 0, 0, 0, 0, 0, 0, 0], 1),
+        Kind::Read => has_fields(line, 0, [2, 16, 16, 0, 0, 0, 0, 0], 3),
     }
-    if kind == 2 {
-        return has_fields(line, 0, [2, 2, 0, 0, 0, 0, 0, 0], 2);
-    }
-    if kind == 3 {
-        return has_fields(line, 0, [2, 0, 0, 0, 0, 0, 0, 0], 1);
-    }
-    if kind == 4 {
-        return has_fields(line, 0, [2, 16, 16, 0, 0, 0, 0, 0], 3);
-    }
-    0 == line.len()
 }
 
-// The kind of the event that the line tells: 1 write, 2 fail, 3 repair, 4 read; 0 where the line is malformed.
+// The kind of the event that the line tells, none where the line is malformed.
+pub fn find_kind(line: &[u8]) -> Option<Kind>
+    ensures { kind_number result ≡ kind_of line.now }
+{
+    if 8301 < line.len() || line.len() < 3 {
+        return None;
+    }
+    match Kind::try_from(hex_text::number_at(line, 0, 2)) {
+        Ok(kind) if has_form(line, kind) => Some(kind),
+        _ => None,
+    }
+}
+
+// The number of that kind, 0 for none.
 pub fn kind_of(line: &[u8]) -> u64
     ensures { result ≡ kind_of line.now }
 {
-    if 8301 < line.len() {
-        return 0;
-    }
-    if line.len() < 3 {
-        return 0;
-    }
-    let kind = hex_text::number_at(line, 0, 2);
-    if has_form(line, kind) {
-        return kind;
-    }
-    0
+    find_kind(line).map_or(0, u64::from)
 }
 
 // Whether the line has the form of a first line.

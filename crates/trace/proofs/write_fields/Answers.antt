@@ -1,10 +1,7 @@
 -- `trace::write_fields` meets its contract: before field i at place `to`, what puts the rest of the line there has put all of it.
 use native.Mathlib.Omega.{arith}
-use Rattle.trace.specs.FieldLines.{writing_begin, writing_room, writing_turn, writing_done}
+use Rattle.trace.specs.FieldLines.{writing_room, writing_turn, writing_done}
 use Rattle.trace.proofs.write_fields.Goals as goal
-
-pub loop-i-init : goal.loop-i-init
-loop-i-init c = λ wide many. let a = c.args in writing_begin a.widths a.numbers a.n wide many a.at a.text.now
 
 pub write_number-requires : goal.write_number-requires
 write_number-requires c = omega (arith, writing_room c.args.widths c.args.numbers c.args.n (omega arith) (omega arith) (c.loop-i.invariant (omega arith) (omega arith)) c.loop-i-test.true c.requires.1)
@@ -25,9 +22,6 @@ pub loop-i-preserved : goal.loop-i-preserved
 loop-i-preserved c = λ wide many. let i = c.loop-i in
     let a = c.args in
     writing_turn a.widths a.numbers a.n wide many (i.invariant wide many) c.loop-i-test.true c.requires.1 c.separator.result c.separator.ensures c.write_number.ensures
-
-pub shape_of-text : goal.shape_of-text
-shape_of-text c = (c.loop-i.invariant (omega arith) (omega arith)).long
 
 pub returns : goal.returns
 returns c = let a = c.args in
