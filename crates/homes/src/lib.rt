@@ -154,12 +154,6 @@ pub fn is_home(homes: [usize; 19], m: usize, u: usize) -> bool
     false
 }
 
-fn wide(x: u8) -> u64
-    ensures { result ≡ x }
-{
-    x as u64
-}
-
 // Whether spare i is no content's home and lies on none of the first j entries.
 fn is_free(
     targets: [u8; 22],
@@ -176,7 +170,7 @@ fn is_free(
     if is_home(homes, m, u) {
         return false;
     }
-    !is_listed(failed, j, wide(targets[u]))
+    !is_listed(failed, j, u64::from(targets[u]))
 }
 
 // The lowest free one of `spares` spares; `spares` where there is none.
@@ -199,12 +193,6 @@ fn free_spare(
     spares
 }
 
-fn chosen(first: bool, a: usize, b: usize) -> usize
-    ensures { result ≡ pick first a b }
-{
-    if first { a } else { b }
-}
-
 // The homes once entry j is looked at too: the content whose home is there has moved.
 fn moved(
     targets: [u8; 22],
@@ -222,7 +210,11 @@ fn moved(
     let mut after = [0usize; 19];
     for c in 0..m {
         let home = homes[c];
-        after[c] = chosen(wide(targets[home]) == gone, to, home);
+        after[c] = if u64::from(targets[home]) == gone {
+            to
+        } else {
+            home
+        };
     }
     after
 }
@@ -273,7 +265,7 @@ pub fn missing_of(
     let mut missing = [false; 19];
     for c in 0..m {
         let home = homes[c];
-        missing[c] = is_listed(failed, k, wide(targets[home]));
+        missing[c] = is_listed(failed, k, u64::from(targets[home]));
     }
     missing
 }

@@ -1,6 +1,6 @@
 use mathlib.Core.Path.{◌≡◌}
 use mathlib.Core.Bool.{false}
-use Prim.Native.Nat.{ℕ, ◌-◌, ◌≤◌, ◌<◌}
+use Prim.Native.Nat.{ℕ, ◌≤◌, ◌<◌}
 use Rattle.lists.specs.Tabulate.{at}
 use Rattle.homes.specs.Homes.{free}
 use Rattle.homes.proofs.free_spare.Given as goal

@@ -1,4 +1,4 @@
-use Prim.Native.Nat.{◌-◌, ◌≤◌}
+use Prim.Native.Nat.{◌≤◌}
 use Rattle.homes.specs.Standing.{HomesAre}
 use Rattle.homes.proofs.homes_of.Given as goal
 

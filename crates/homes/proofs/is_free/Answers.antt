@@ -12,5 +12,5 @@ returns-then-is_home c = let a = c.args in
 
 pub returns : goal.returns
 returns c = let a = c.args in
-    ap not (c.is_listed.ensures ∙ ap (listed (at a.failed) a.j) c.wide.ensures)
+    ap not (c.is_listed.ensures ∙ ap (listed (at a.failed) a.j) c.from.ensures)
     ∙ sym (free_rest (at a.targets) a.m 0 (at a.failed) a.j (at a.homes) a.i (sym c.is_home.ensures ∙ c.if-is_home.false))

@@ -20,7 +20,7 @@ loop-c-preserved c = let a = c.args in
       omega arith,
       length-set l.missing l.c _ ∙ l.invariant.1,
       fill_step (λ i. listed (at a.failed) a.k (at a.targets (at a.homes i))) l.missing l.c _ false (omega arith)
-          (c.is_listed.ensures ∙ ap (listed (at a.failed) a.k) c.wide.ensures) l.invariant.2,
+          (c.is_listed.ensures ∙ ap (listed (at a.failed) a.k) c.from.ensures) l.invariant.2,
     )
 
 pub returns : goal.returns
