@@ -1,17 +1,16 @@
 -- A group by its plan: where its contents stand, which are missing, and what each holds. One column, the bytes at one unit offset, at a time.
-use Rattle.std.specs.Prelude.{◌≡◌, Bool, List, [], ◌∷◌, ℕ, ◌+◌, ◌<◌, ◌≤◌, get_or}
+use Rattle.std.specs.Prelude.{◌≡◌, Bool, List, ℕ, ◌+◌, ◌<◌, ◌≤◌, get_or}
 use Rattle.lists.specs.Count.{count}
 use Rattle.systems.specs.Coef.{coef}
 use Rattle.systems.specs.Matrix.{ent}
 use Rattle.parity.specs.Matrix.{flag, RowsFor}
 use Rattle.parity.specs.Group.{Solvable, rebuilt}
 use Rattle.parity.specs.Rows.{slot}
-use Rattle.plan.specs.declared.Lines.{Lines}
 use Rattle.plan.specs.declared.Plan.{Plan}
 
 -- three rows as a list of rows
-abbrev pub lines_of : Lines → List (List ℕ)
-lines_of l = l.first ∷ l.second ∷ l.third ∷ []
+abbrev pub lines_of : List (List ℕ) → List (List ℕ)
+lines_of l = l
 
 -- where content c begins in the image; whether it is missing
 abbrev pub at_of : Plan → ℕ → ℕ
@@ -21,7 +20,7 @@ abbrev pub miss_of : Plan → ℕ → Bool
 miss_of P = flag P.missing
 
 -- the coefficients of the parity units
-abbrev pub Codes : Lines → Type 0
+abbrev pub Codes : List (List ℕ) → Type 0
 Codes l = (i : ℕ) → i < 3 → (j : ℕ) → j < 16 → ent (lines_of l) i j ≡ coef i j
 
 -- a plan holds what its missing contents ask for

@@ -8,8 +8,8 @@ use Rattle.plan.proofs.plan_anew.Goals as goal
 pub missing_below-gone-requires : goal.missing_below-gone-requires
 missing_below-gone-requires c = (omega (arith, c.requires.0.data_max, c.requires.0.parity_max), gone_most _ _ _ c.requires.0)
 
-pub lines_for-rows-requires : goal.lines_for-rows-requires
-lines_for-rows-requires c = (c.requires.0, c.missing_below-gone.ensures.count_is)
+pub lines_for-requires : goal.lines_for-requires
+lines_for-requires c = (c.requires.0, c.missing_below-gone.ensures.count_is)
 
 pub returns : goal.returns
 returns c = record {
@@ -20,9 +20,9 @@ returns c = record {
   flags_are = λ i h. refl;
   right = record {
     solvable = c.requires.0;
-    ranks = c.ranks-rank.ensures;
-    slots_are = c.slots-slots.ensures;
-    rows_are = c.lines_for-rows.ensures;
+    ranks = c.ranks.ensures;
+    slots_are = c.slots.ensures;
+    rows_are = c.lines_for.ensures;
     codes_are = c.requires.1;
     gone_is = c.missing_below-gone.ensures.count_is ∙ length-those _ _;
   };

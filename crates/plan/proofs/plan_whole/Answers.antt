@@ -16,7 +16,7 @@ returns c = let p = c.requires in
         ranks = whole_ranks _ _ p.0 p.1;
         slots_are = whole_slots _ _ p.0 p.1;
         rows_are = λ q h. absurd (whole-rows _ _ p.0 p.1 q h);
-        codes_are = c.codes-codes.ensures;
+        codes_are = c.codes.ensures;
         gone_is = whole-gone _ _ p.0 p.1;
       };
     }
