@@ -4,7 +4,7 @@
 ghost use Rattle.std.specs.Prelude.{◌≡◌, ◌<◌};
 ghost use Rattle.field.specs.Byte.{double as twice, mul as product, inv as inverse, div as quotient};
 ghost use Rattle.field.specs.Powers.{power};
-ghost use Rattle.field.specs.Tables.{Powers, Logs, Tables};
+ghost use Rattle.field.specs.Tables.{Powers, Logs};
 
 // Entry n is 2 to the n: entry 0 is 1, and each next is twice the one before.
 const POWERS: [u8; 256] = *b"\
@@ -53,41 +53,6 @@ pub fn double(a: u8) -> u8
     (a << 1) ^ over
 }
 
-// The tables by value. A constant that is indexed where it stands is copied at each use: whoever makes many products takes both tables once
-// and lends them.
-pub fn powers() -> [u8; 256]
-    ensures { Powers result }
-{
-    POWERS
-}
-
-pub fn logs() -> [u8; 256]
-    ensures { Logs result }
-{
-    LOGS
-}
-
-fn wide(x: u8) -> usize
-    ensures { result ≡ x }
-{
-    x as usize
-}
-
-// The exponent that gives a, which is not 0.
-fn log_of(logs: &[u8; 256], a: u8) -> usize
-    requires { Logs logs.now × (0 < a) }
-    ensures { (result < 255) × (power result ≡ a) }
-{
-    wide(logs[wide(a)])
-}
-
-fn power_of(powers: &[u8; 256], n: usize) -> u8
-    requires { Powers powers.now × (n < 256) }
-    ensures { result ≡ power n }
-{
-    powers[n]
-}
-
 // An exponent below 255 that gives the same power: 2 to the 255 is 1. The choice is between two numbers, so that no branch has to be foretold.
 #[tactic(auto, using(crate::proofs::PowersLaws::power_turned))]
 fn folded(s: usize) -> usize
@@ -98,43 +63,72 @@ fn folded(s: usize) -> usize
     s - turn
 }
 
-// The product, by lent tables: exponents add.
-pub fn mul_by(powers: &[u8; 256], logs: &[u8; 256], a: u8, b: u8) -> u8
-    requires { Tables powers.now logs.now }
-    ensures { result ≡ product a b }
-{
-    if a == 0 {
-        return 0;
-    }
-    if b == 0 {
-        return 0;
-    }
-    power_of(powers, folded(log_of(logs, a) + log_of(logs, b)))
+// Both tables. A constant that is indexed where it stands is copied at each use: whoever makes many products makes the tables once and lends
+// them.
+#[derive(Drop)]
+pub struct Tables {
+    powers: [u8; 256],
+    logs: [u8; 256],
+    pub ghost powers_right: { Powers powers },
+    pub ghost logs_right: { Logs logs },
 }
 
-// The inverse, by lent tables: the exponents of a and of its inverse add to 255. Of 0 it is 0.
-pub fn inv_by(powers: &[u8; 256], logs: &[u8; 256], a: u8) -> u8
-    requires { Tables powers.now logs.now }
-    ensures { result ≡ inverse a }
-{
-    if a == 0 {
-        return 0;
+impl Tables {
+    pub fn new() -> Self {
+        Tables {
+            powers: POWERS,
+            logs: LOGS,
+        }
     }
-    power_of(powers, 255 - log_of(logs, a))
+
+    // The exponent that gives a, which is not 0.
+    fn log(&self, a: u8) -> usize
+        requires { 0 < a }
+        ensures { (result < 255) × (power result ≡ a) }
+    {
+        usize::from(self.logs[usize::from(a)])
+    }
+
+    fn power(&self, n: usize) -> u8
+        requires { n < 256 }
+        ensures { result ≡ power n }
+    {
+        self.powers[n]
+    }
+
+    // The product: exponents add.
+    pub fn mul(&self, a: u8, b: u8) -> u8
+        ensures { result ≡ product a b }
+    {
+        if a == 0 || b == 0 {
+            return 0;
+        }
+        self.power(folded(self.log(a) + self.log(b)))
+    }
+
+    // The inverse, which of 0 is 0: the exponents of a and of its inverse add to 255.
+    pub fn inv(&self, a: u8) -> u8
+        ensures { result ≡ inverse a }
+    {
+        if a == 0 {
+            return 0;
+        }
+        self.power(255 - self.log(a))
+    }
 }
 
-// The product. By itself it costs a copy of both tables: where there are many, `mul_by`.
+// The product. By itself it costs a copy of both tables: where there are many, `Tables::mul`.
 pub fn mul(a: u8, b: u8) -> u8
     ensures { result ≡ product a b }
 {
-    mul_by(&powers(), &logs(), a, b)
+    Tables::new().mul(a, b)
 }
 
 // The inverse of a, which is its power 254; of 0 it is 0.
 pub fn inv(a: u8) -> u8
     ensures { result ≡ inverse a }
 {
-    inv_by(&powers(), &logs(), a)
+    Tables::new().inv(a)
 }
 
 // The quotient: the one byte that gives a back when it is multiplied by b, where b is not 0. By 0 it is 0.

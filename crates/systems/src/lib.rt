@@ -4,11 +4,12 @@
 
 ghost use Rattle.std.specs.Prelude.{◌≡◌, ℕ, ◌<◌, get_or};
 ghost use Rattle.field.specs.Byte.{mul as product};
-ghost use Rattle.field.specs.Tables.{Tables};
 ghost use Rattle.systems.specs.Coef.{coef as coefficient};
 ghost use Rattle.systems.specs.Cramer.{lo, hi, cof, inverse as inverseEntry};
 ghost use Rattle.systems.specs.System.{system_entry};
 ghost use Rattle.systems.specs.Matrix.{ent, three_of, square_of, dot_of};
+
+use field::Tables;
 
 const COEFS: [[u8; 16]; 3] = [
     [1, 1, 1, 1, 1, 1, 1, 1, 1, 1, 1, 1, 1, 1, 1, 1],
@@ -51,66 +52,63 @@ fn high(r: usize) -> usize
 }
 
 // The determinant of what is left without row r and column c.
-fn cofactor(powers: &[u8; 256], logs: &[u8; 256], m: [[u8; 3]; 3], r: usize, c: usize) -> u8
-    requires { Tables powers.now logs.now × (r < 3) × (c < 3) }
+fn cofactor(tables: &Tables, m: [[u8; 3]; 3], r: usize, c: usize) -> u8
+    requires { (r < 3) × (c < 3) }
     ensures { result ≡ cof (ent m) r c }
 {
     let i = low(r);
     let k = high(r);
     let j = low(c);
     let l = high(c);
-    field::mul_by(powers, logs, m[i][j], m[k][l]) ^ field::mul_by(powers, logs, m[i][l], m[k][j])
+    tables.mul(m[i][j], m[k][l]) ^ tables.mul(m[i][l], m[k][j])
 }
 
 // The sum of the products of two rows of three.
-pub fn dot(powers: &[u8; 256], logs: &[u8; 256], u: [u8; 3], v: [u8; 3]) -> u8
-    requires { Tables powers.now logs.now }
+pub fn dot(tables: &Tables, u: [u8; 3], v: [u8; 3]) -> u8
     ensures { result ≡ dot_of u v }
 {
-    let first = field::mul_by(powers, logs, u[0], v[0]);
-    let second = field::mul_by(powers, logs, u[1], v[1]);
-    let third = field::mul_by(powers, logs, u[2], v[2]);
+    let first = tables.mul(u[0], v[0]);
+    let second = tables.mul(u[1], v[1]);
+    let third = tables.mul(u[2], v[2]);
     first ^ (second ^ third)
 }
 
 // The cofactors of column c: times the inverse of the determinant they are row c of the inverse.
-fn cofactors(powers: &[u8; 256], logs: &[u8; 256], m: [[u8; 3]; 3], c: usize) -> [u8; 3]
-    requires { Tables powers.now logs.now × (c < 3) }
+fn cofactors(tables: &Tables, m: [[u8; 3]; 3], c: usize) -> [u8; 3]
+    requires { (c < 3) }
     ensures { result ≡ three_of (λ r. cof (ent m) r c) }
 {
     [
-        cofactor(powers, logs, m, 0, c),
-        cofactor(powers, logs, m, 1, c),
-        cofactor(powers, logs, m, 2, c),
+        cofactor(tables, m, 0, c),
+        cofactor(tables, m, 1, c),
+        cofactor(tables, m, 2, c),
     ]
 }
 
 // Three numbers, each times d.
-fn scaled(powers: &[u8; 256], logs: &[u8; 256], x: [u8; 3], d: u8) -> [u8; 3]
-    requires { Tables powers.now logs.now }
+fn scaled(tables: &Tables, x: [u8; 3], d: u8) -> [u8; 3]
     ensures { result ≡ three_of (λ r. product (get_or x r 0) d) }
 {
     [
-        field::mul_by(powers, logs, x[0], d),
-        field::mul_by(powers, logs, x[1], d),
-        field::mul_by(powers, logs, x[2], d),
+        tables.mul(x[0], d),
+        tables.mul(x[1], d),
+        tables.mul(x[2], d),
     ]
 }
 
 // The inverse of a matrix whose determinant is not 0: times a right side it is the one solution.
-pub fn inverse(powers: &[u8; 256], logs: &[u8; 256], m: [[u8; 3]; 3]) -> [[u8; 3]; 3]
-    requires { Tables powers.now logs.now }
+pub fn inverse(tables: &Tables, m: [[u8; 3]; 3]) -> [[u8; 3]; 3]
     ensures { result ≡ square_of (inverseEntry (ent m)) }
 {
-    let first = cofactors(powers, logs, m, 0);
-    let second = cofactors(powers, logs, m, 1);
-    let third = cofactors(powers, logs, m, 2);
-    let det = dot(powers, logs, m[0], [first[0], second[0], third[0]]);
-    let d = field::inv_by(powers, logs, det);
+    let first = cofactors(tables, m, 0);
+    let second = cofactors(tables, m, 1);
+    let third = cofactors(tables, m, 2);
+    let det = dot(tables, m[0], [first[0], second[0], third[0]]);
+    let d = tables.inv(det);
     [
-        scaled(powers, logs, first, d),
-        scaled(powers, logs, second, d),
-        scaled(powers, logs, third, d),
+        scaled(tables, first, d),
+        scaled(tables, second, d),
+        scaled(tables, third, d),
     ]
 }
 
