@@ -1,14 +1,10 @@
 -- The equations for the lost data units ks, from the parity units is, one for each: padded with the identity to three.
-use Rattle.std.specs.Prelude.{◌≡◌, List, [], ◌∷◌, ℕ, ◌<◌, ◌≤◌, ltb, eqb, length, get_or}
-use Rattle.std.proofs.Common.{ap, ◌∙◌, le_trans, arith, lit<, lit≤}
+use Rattle.std.specs.Prelude.{◌≡◌, List, [], ◌∷◌, ℕ, ◌<◌, ◌≤◌, length, get_or}
+use Rattle.std.proofs.Common.{le_trans, arith, lit<, lit≤}
 use Rattle.std.proofs.Math.Path.{subst⁻¹}
-use Rattle.field.specs.Byte.{◌⊕◌, mul, inv}
-use Rattle.field.specs.Laws.{mul-one, mul-inv}
-use Rattle.field.proofs.RingLaws.{ring}
-use Rattle.lists.specs.Pick.{pick, both}
 use Rattle.systems.specs.Coef.{coef, coef-lt}
 use Rattle.systems.proofs.CoefLaws.{coef_pos, coef_2, coef_3}
-use Rattle.systems.specs.Cramer.{cof, det, inverse}
+use Rattle.systems.specs.Cramer.{cof, det}
 use Rattle.systems.specs.System.{system_entry, sys, Rising, pad_1, pad_2}
 
 pub regular : (is ks : List ℕ) → Rising is 3 → Rising ks 16 → length ks ≤ length is → 0 < det (sys is ks)

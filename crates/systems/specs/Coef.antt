@@ -1,11 +1,10 @@
 -- "a(i,j) = ((32⊕j)·((32+i)⊕0)) / (((32+i)⊕j)·32), products and quotients in the field. So row 0 and column 0 are ones." As a rule and as a
 -- table, and one computed test: the table is the rule's, its first row and column are ones, and every square part of it with one, two or
 -- three rows is nonsingular.
-use Rattle.std.specs.Prelude.{◌≡◌, refl, Bool, true, List, [], ◌∷◌, ℕ, ◌+◌, ◌<◌, eqb, ltb, get_or}
-use Rattle.std.proofs.Common.{◌∙◌, lt_trans, lit<, eqb-true, ltb-true}
-use Rattle.lists.specs.Pick.{both, both_true}
-use Rattle.lists.specs.Search.{all, all-at}
-use Rattle.field.specs.Byte.{◌⊕◌, double, scale, mul_digits, mul, inv, power_digits, div}
+use Rattle.std.specs.Prelude.{Bool, List, [], ◌∷◌, ℕ, ◌+◌, ◌<◌, eqb, ltb, get_or}
+use Rattle.lists.specs.Pick.{both}
+use Rattle.lists.specs.Search.{all}
+use Rattle.field.specs.Byte.{◌⊕◌, mul, div}
 use Rattle.field.proofs.Laws.{div-lt}
 
 -- the coefficient of data unit j in parity unit i

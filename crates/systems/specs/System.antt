@@ -1,7 +1,6 @@
 -- The equations for the lost data units ks, from the parity units is, one for each: padded with the identity to three.
-use Rattle.std.specs.Prelude.{◌≡◌, List, [], ◌∷◌, ℕ, ◌<◌, ◌≤◌, ltb, eqb, length, get_or}
-use Rattle.std.proofs.Common.{ap, ◌∙◌, le_trans, arith, lit<, lit≤}
-use Rattle.std.proofs.Math.Path.{subst⁻¹}
+use Rattle.std.specs.Prelude.{◌≡◌, List, [], ◌∷◌, ℕ, ◌<◌, ltb, eqb, length, get_or}
+use Rattle.std.proofs.Common.{ap, ◌∙◌, arith, lit<}
 use Rattle.field.specs.Byte.{◌⊕◌, mul, inv}
 use Rattle.field.specs.Laws.{mul-one, mul-inv}
 use Rattle.field.proofs.RingLaws.{ring}

@@ -10,6 +10,7 @@ ghost use Rattle.systems.specs.System.{system_entry};
 ghost use Rattle.systems.specs.Matrix.{ent, three_of, square_of, dot_of};
 
 use field::Tables;
+use std::array;
 
 const COEFS: [[u8; 16]; 3] = [
     [1, 1, 1, 1, 1, 1, 1, 1, 1, 1, 1, 1, 1, 1, 1, 1],
@@ -73,60 +74,50 @@ pub fn dot(tables: &Tables, u: [u8; 3], v: [u8; 3]) -> u8
     first ^ (second ^ third)
 }
 
-// The cofactors of column c: times the inverse of the determinant they are row c of the inverse.
-fn cofactors(tables: &Tables, m: [[u8; 3]; 3], c: usize) -> [u8; 3]
-    requires { (c < 3) }
-    ensures { result ≡ three_of (λ r. cof (ent m) r c) }
+// The cofactors, each column of m as a row: times the inverse of the determinant they are the inverse.
+fn cofactors(tables: &Tables, m: [[u8; 3]; 3]) -> [[u8; 3]; 3]
+    ensures { result ≡ square_of (λ c r. cof (ent m) r c) }
 {
-    [
-        cofactor(tables, m, 0, c),
-        cofactor(tables, m, 1, c),
-        cofactor(tables, m, 2, c),
-    ]
+    array::from_fn(
+        |c|
+            requires { c < 3 }
+            ensures { result ≡ three_of (λ r. cof (ent m) r c) }
+        { array::from_fn(|r| cofactor(tables, m, r, c)) },
+    )
 }
 
-// Three numbers, each times d.
-fn scaled(tables: &Tables, x: [u8; 3], d: u8) -> [u8; 3]
-    ensures { result ≡ three_of (λ r. product (get_or x r 0) d) }
+// A matrix, each entry times d.
+fn scaled(tables: &Tables, m: [[u8; 3]; 3], d: u8) -> [[u8; 3]; 3]
+    ensures { result ≡ square_of (λ c r. product (ent m c r) d) }
 {
-    [
-        tables.mul(x[0], d),
-        tables.mul(x[1], d),
-        tables.mul(x[2], d),
-    ]
+    array::from_fn(
+        |c|
+            requires { c < 3 }
+            ensures { result ≡ three_of (λ r. product (ent m c r) d) }
+        { array::from_fn(|r| tables.mul(m[c][r], d)) },
+    )
 }
 
 // The inverse of a matrix whose determinant is not 0: times a right side it is the one solution.
 pub fn inverse(tables: &Tables, m: [[u8; 3]; 3]) -> [[u8; 3]; 3]
     ensures { result ≡ square_of (inverseEntry (ent m)) }
 {
-    let first = cofactors(tables, m, 0);
-    let second = cofactors(tables, m, 1);
-    let third = cofactors(tables, m, 2);
-    let det = dot(tables, m[0], [first[0], second[0], third[0]]);
-    let d = tables.inv(det);
-    [
-        scaled(tables, first, d),
-        scaled(tables, second, d),
-        scaled(tables, third, d),
-    ]
+    let columns = cofactors(tables, m);
+    let det = dot(tables, m[0], [columns[0][0], columns[1][0], columns[2][0]]);
+    scaled(tables, columns, tables.inv(det))
 }
 
 // One entry of the equations for the lost units `ks` from the parity units `is`, d of each, padded with the identity.
+#[tactic(auto, unfolding(crate::specs::System::system_entry))]
 fn entry(is: [usize; 3], ks: [usize; 3], d: usize, r: usize, c: usize) -> u8
     requires { (r < 3) × (c < 3) × ((r : ℕ) → r < 3 → get_or is r 0 < 3) × ((c : ℕ) → c < 3 → get_or ks c 0 < 16) }
     ensures { result ≡ system_entry is ks d r c }
 {
-    if r < d {
-        if c < d {
-            return coef(is[r], ks[c]);
-        }
-        return 0;
+    if r < d && c < d {
+        coef(is[r], ks[c])
+    } else {
+        u8::from(r == c)
     }
-    if r == c {
-        return 1;
-    }
-    0
 }
 
 // The equations, rows of rows.
@@ -134,21 +125,10 @@ pub fn system(is: [usize; 3], ks: [usize; 3], d: usize) -> [[u8; 3]; 3]
     requires { ((r : ℕ) → r < 3 → get_or is r 0 < 3) × ((c : ℕ) → c < 3 → get_or ks c 0 < 16) }
     ensures { result ≡ square_of (system_entry is ks d) }
 {
-    [
-        [
-            entry(is, ks, d, 0, 0),
-            entry(is, ks, d, 0, 1),
-            entry(is, ks, d, 0, 2),
-        ],
-        [
-            entry(is, ks, d, 1, 0),
-            entry(is, ks, d, 1, 1),
-            entry(is, ks, d, 1, 2),
-        ],
-        [
-            entry(is, ks, d, 2, 0),
-            entry(is, ks, d, 2, 1),
-            entry(is, ks, d, 2, 2),
-        ],
-    ]
+    array::from_fn(
+        |r|
+            requires { (r < 3) × ((r : ℕ) → r < 3 → get_or is r 0 < 3) × ((c : ℕ) → c < 3 → get_or ks c 0 < 16) }
+            ensures { result ≡ three_of (system_entry is ks d r) }
+        { array::from_fn(|c| entry(is, ks, d, r, c)) },
+    )
 }

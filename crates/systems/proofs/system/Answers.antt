@@ -1,5 +1,0 @@
--- `systems::system`. Nine entries.
-use Rattle.systems.proofs.system.Goals as goal
-
-pub returns : goal.returns
-returns c = cc
