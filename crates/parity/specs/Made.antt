@@ -1,5 +1,5 @@
 -- What the code works out for a set of missing units, step by step, is what the rules for slots and rows say.
-use Rattle.std.specs.Prelude.{◌≡◌, Bool, true, false, List, [], ◌∷◌, ℕ, ◌+◌, ◌-◌, ◌<◌, ◌≤◌, ltb}
+use Rattle.std.specs.Prelude.{◌≡◌, Bool, true, false, List, [], ℕ, ◌+◌, ◌-◌, ◌<◌, ◌≤◌, ltb}
 use Rattle.std.proofs.Math.Path.{refl, sym, ap, ap₂}
 use Rattle.std.proofs.Common.{◌∙◌, le_trans, arith, lit<, lt-ltb, le-ltb}
 use Rattle.std.proofs.Math.Logic.{⊎_elim}
@@ -15,7 +15,7 @@ use Rattle.parity.specs.Group.{Solvable, lost, there, gone, equations}
 use Rattle.parity.specs.Restores.{lost_most}
 use Rattle.parity.specs.Rows.{slot, weight, data_row, parity_row, row_of}
 use Rattle.systems.specs.Matrix.{ent, three_of, square_of}
-use Rattle.parity.specs.Matrix.{pad3, Holds, weight_of, slot_coef, lost_coef, parity_coef, unit_coef, RowsFor}
+use Rattle.parity.specs.Matrix.{pad3, Holds, weight_of, slot_coef, lost_coef, parity_coef, RowsFor}
 use Rattle.parity.specs.Steps.{held-lt, rank_lt}
 
 -- an entry of three
@@ -118,31 +118,22 @@ module _ (n k : ℕ) (miss : ℕ → Bool) (s : Solvable n k miss) where
               ≡ mul (coef i (get_or (lost n miss) r 0)) (pick (ltb r (length (lost n miss))) (data_row n k miss r j) 0)
           term r h = ap₂ mul (ap (coef i) (held_at hk r h)) (three-at (λ r. ent lines r j) r h ∙ el r h j hj ∙ lost-coef r h j hj)
 
-      module _ {units : List ℕ} {total : ℕ} (hg : Holds (gone n k miss) units total) where
-        unit_coef_lem : (q : ℕ) → q < 3 → q < length (gone n k miss) → (j : ℕ) → j < n
-            → unit_coef ks d lines total (miss j) q (get_or units q 0 - n) j ≡ row_of n k miss (get_or (gone n k miss) q 0) j
-        unfolding unit_coef row_of
-        unit_coef_lem q h3 h j hj =
-            below_or_not q (length (lost n miss))
-            (λ (l : q < length (lost n miss)).
-            pick_true (ltb q d) _ _ (lt-ltb q d (omega (arith, hk.count_is)))
-            ∙ el q h3 j hj ∙ lost-coef q h3 j hj ∙ pick_true (ltb q (length (lost n miss))) _ 0 (lt-ltb q (length (lost n miss)) l)
-            ∙ ap (λ (z : ℕ). data_row n k miss z j) (sym (those_rank miss (n + k) q h))
-            ∙ sym (pick_true (ltb (get_or (gone n k miss) q 0) n) _ _ (lt-ltb (get_or (gone n k miss) q 0) n (gone_data q h l))))
-            (λ (l : length (lost n miss) ≤ q).
-            pick-false (ltb q d) _ _ (le-ltb q d (omega (arith, hk.count_is)))
-            ∙ pick_true (ltb q total) _ 0 (lt-ltb q total (omega (arith, hg.count_is)))
-            ∙ parity_coef_lem (get_or units q 0 - n) j hj
-            ∙ ap (λ (z : ℕ). parity_row n k miss (z - n) j) (held_at hg q h3)
-            ∙ sym (pick-false (ltb (get_or (gone n k miss) q 0) n) _ _ (le-ltb (get_or (gone n k miss) q 0) n (gone_parity q h l))))
-
-        -- the three rows
-        pub rows_made : (x y z : List ℕ)
-            → ((j : ℕ) → j < n → get_or x j 0 ≡ unit_coef ks d lines total (miss j) 0 (get_or units 0 0 - n) j)
-            → ((j : ℕ) → j < n → get_or y j 0 ≡ unit_coef ks d lines total (miss j) 1 (get_or units 1 0 - n) j)
-            → ((j : ℕ) → j < n → get_or z j 0 ≡ unit_coef ks d lines total (miss j) 2 (get_or units 2 0 - n) j)
-            → RowsFor n k miss (x ∷ y ∷ z ∷ [])
-        rows_made x y z ex ey ez q h =
-            three (λ (q : ℕ). q < length (gone n k miss) → (j : ℕ) → j < n → ent (x ∷ y ∷ z ∷ []) q j ≡ row_of n k miss (get_or (gone n k miss) q 0) j)
-            (λ g j l. ex j l ∙ unit_coef_lem 0 (lit< tt) g j l) (λ g j l. ey j l ∙ unit_coef_lem 1 (lit< tt) g j l) (λ g j l. ez j l ∙ unit_coef_lem 2 (lit< tt) g j l)
-            q (le_trans h gone_most) h
+      -- the rows: those of the lost data units, then those of parity units
+      pub rows_made : {units : List ℕ} {total : ℕ} → Holds (gone n k miss) units total → (x : List (List ℕ))
+          → ((q : ℕ) → q < d → (j : ℕ) → j < n → ent x q j ≡ ent lines q j)
+          → ((q : ℕ) → d ≤ q → q < total → (j : ℕ) → j < n → ent x q j ≡ parity_coef ks (three_of (λ r. ent lines r j)) (miss j) (get_or units q 0 - n) j)
+          → RowsFor n k miss x
+      unfolding row_of
+      rows_made {units} {total} hg x same own q h j hj =
+          let h3 = le_trans h gone_most in
+          below_or_not q (length (lost n miss))
+          (λ (l : q < length (lost n miss)).
+          same q (omega (arith, hk.count_is)) j hj
+          ∙ el q h3 j hj ∙ lost-coef q h3 j hj ∙ pick_true (ltb q (length (lost n miss))) _ 0 (lt-ltb q (length (lost n miss)) l)
+          ∙ ap (λ (z : ℕ). data_row n k miss z j) (sym (those_rank miss (n + k) q h))
+          ∙ sym (pick_true (ltb (get_or (gone n k miss) q 0) n) _ _ (lt-ltb (get_or (gone n k miss) q 0) n (gone_data q h l))))
+          (λ (l : length (lost n miss) ≤ q).
+          own q (omega (arith, hk.count_is)) (omega (arith, hg.count_is)) j hj
+          ∙ parity_coef_lem (get_or units q 0 - n) j hj
+          ∙ ap (λ (z : ℕ). parity_row n k miss (z - n) j) (held_at hg q h3)
+          ∙ sym (pick-false (ltb (get_or (gone n k miss) q 0) n) _ _ (le-ltb (get_or (gone n k miss) q 0) n (gone_parity q h l))))

@@ -17,6 +17,10 @@ pad3 l = three_of (λ r. get_or l r 0)
 abbrev pub flag : List Bool → ℕ → Bool
 flag flags u = get_or flags u false
 
+-- the flag of unit u is `wanted`
+abbrev pub set_to : Bool → List Bool → ℕ → Bool
+set_to wanted flags u = pick wanted (flag flags u) (not (flag flags u))
+
 -- parity unit i is there
 abbrev pub present : List Bool → ℕ → ℕ → Bool
 present flags n i = not (flag flags (n + i))
@@ -41,11 +45,6 @@ lost_coef m is d miss c j = pick (ltb c d) (slot_coef (three_of (weight_of (get_
 -- the coefficient of slot j in parity unit i, from the lost units ks and what slot j counts for in them
 unfoldable pub parity_coef : List ℕ → List ℕ → Bool → ℕ → ℕ → ℕ
 parity_coef ks col missing i j = pick missing 0 (coef i j) ⊕ sum3 (λ r. mul (coef i (get_or ks r 0)) (get_or col r 0))
-
--- the coefficient of slot j in the missing unit number q, of `total`: a lost data unit, or parity unit i
-unfoldable pub unit_coef : List ℕ → ℕ → List (List ℕ) → ℕ → Bool → ℕ → ℕ → ℕ → ℕ
-unit_coef ks d lines total missing q i j =
-    pick (ltb q d) (ent lines q j) (pick (ltb q total) (parity_coef ks (three_of (λ r. ent lines r j)) missing i j) 0)
 
 -- row q is that of the missing unit number q
 abbrev pub RowsFor : ℕ → ℕ → (ℕ → Bool) → List (List ℕ) → Type 0

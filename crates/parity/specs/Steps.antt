@@ -1,10 +1,10 @@
 -- What the functions on small systems show, one lemma for each return or turn.
-use Rattle.std.specs.Prelude.{◌≡◌, Bool, true, false, not, List, [], ◌∷◌, ◌++◌, ℕ, ◌+◌, ◌<◌, ◌≤◌, length, get_or, set}
+use Rattle.std.specs.Prelude.{◌≡◌, Bool, true, false, List, [], ◌∷◌, ◌++◌, ℕ, ◌+◌, ◌<◌, ◌≤◌, length, get_or, set}
 use Rattle.std.proofs.Math.Path.{refl, ap, subst⁻¹}
 use Rattle.std.proofs.Common.{sym, ap₂, ◌∙◌, not-suc-le-zero, le_of_suc-le-suc, add-one, arith, lit<, length-append}
 use Rattle.std.specs.Int.Bits.{bit_xor}
 use Rattle.std.proofs.Math.ListN.{get_or-eq_default}
-use Rattle.lists.specs.Pick.{pick, below_or_not}
+use Rattle.lists.specs.Pick.{pick, pick-false, below_or_not}
 use Rattle.lists.specs.Count.{count}
 use Rattle.lists.specs.Those.{those, length-those, those-place}
 use Rattle.field.specs.Byte.{◌⊕◌, mul}
@@ -45,13 +45,14 @@ unfolding parity_coef
 parity_by_rows ks own across lines missing i j eo ea =
     ap₂ ◌⊕◌ (ap (pick missing 0) eo) (ap (λ (l : List ℕ). dot_of l (three_of (λ r. ent lines r j))) ea)
 
-pub parity_coef_made : (missing : Bool) (own : ℕ) {k d x : ℕ} → k ≡ pick (not missing) own 0 → d ≡ x → bit_xor k d ≡ pick missing 0 own ⊕ x
-unfolding ◌⊕◌
-parity_coef_made missing own ek ed = ap₂ bit_xor (ek ∙ turned missing) ed
-  where
-    turned : (t : Bool) → pick (not t) own 0 ≡ pick t 0 own
-    turned true = refl
-    turned false = refl
+module _ (missing : Bool) (own : ℕ) {x y : ℕ} (e : x ≡ y) where
+  pub parity_coef_missing : missing ≡ true → x ≡ pick missing 0 own ⊕ y
+  unfolding ◌⊕◌
+  parity_coef_missing t = e ∙ ap (λ (z : Bool). bit_xor (pick z 0 own) y) (sym t)
+
+  pub parity_coef-there : missing ≡ false → bit_xor own x ≡ pick missing 0 own ⊕ y
+  unfolding ◌⊕◌
+  parity_coef-there t = ap₂ bit_xor (sym (pick-false missing 0 own t)) e
 
 -- ---- the search for at most three numbers that pass a test
 

@@ -2,17 +2,17 @@
 // of coefficients over those. Worked out once for a set of missing units, whatever the bytes are.
 #![tactic(auto)]
 
-ghost use Rattle.std.specs.Prelude.{◌≡◌, true, ℕ, ◌+◌, ◌-◌, ◌<◌, ◌≤◌, length, get_or};
-ghost use Rattle.lists.specs.Pick.{pick, bit};
+ghost use Rattle.std.specs.Prelude.{◌≡◌, Bool, ℕ, ◌+◌, ◌-◌, ◌<◌, ◌≤◌, length, get_or};
 ghost use Rattle.lists.specs.Count.{count};
 ghost use Rattle.lists.specs.Those.{those};
-ghost use Rattle.field.specs.Byte.{◌⊕◌};
-ghost use Rattle.field.specs.Tables.{Tables};
 ghost use Rattle.systems.specs.Coef.{coef as coefficient};
-ghost use Rattle.systems.specs.Matrix.{ent, three_of, dot_of};
-ghost use Rattle.parity.specs.Matrix.{flag, present, Holds, weight_of, slot_coef, lost_coef, parity_coef, unit_coef, RowsFor};
+ghost use Rattle.systems.specs.Matrix.{ent, three_of};
+ghost use Rattle.parity.specs.Matrix.{flag, set_to, present, Holds, weight_of, slot_coef, lost_coef, parity_coef, RowsFor};
 ghost use Rattle.parity.specs.Group.{Solvable};
 ghost use Rattle.parity.specs.Rows.{slot};
+
+use field::Tables;
+use std::array;
 
 // At most three numbers, in order, with zeros after them.
 #[derive(Clone, Copy)]
@@ -21,65 +21,35 @@ pub struct Few {
     pub count: usize,
 }
 
+// The places at which a flag is `wanted`, of which there are at most three.
+fn places(flags: &[bool], wanted: bool) -> Few
+    requires { length (those (set_to wanted flags.now) (length flags.now)) ≤ 3 }
+    ensures { Holds (those (set_to wanted flags.now) (length flags.now)) result.at result.count }
+{
+    let mut at = [0usize; 3];
+    let mut count: usize = 0;
+    for (j, &flag) in flags.iter().enumerate() {
+        if flag == wanted {
+            at[count] = j;
+            count += 1;
+        }
+    }
+    Few { at, count }
+}
+
 // The missing units below n.
 pub fn missing_below(miss: [bool; 19], n: usize) -> Few
     requires { (n ≤ 19) × (length (those (flag miss) n) ≤ 3) }
     ensures { Holds (those (flag miss) n) result.at result.count }
 {
-    let mut found = [0usize; 3];
-    let mut d: usize = 0;
-    for j in 0..n {
-        if miss[j] {
-            found[d] = j;
-            d += 1;
-        }
-    }
-    Few {
-        at: found,
-        count: d,
-    }
-}
-
-// The parity units that are there, counted from the first.
-fn present_parity(miss: [bool; 19], n: usize, k: usize) -> Few
-    requires { (n ≤ 16) × (k ≤ 3) }
-    ensures { Holds (those (present miss n) k) result.at result.count }
-{
-    let mut found = [0usize; 3];
-    let mut c: usize = 0;
-    for i in 0..k {
-        if !miss[n + i] {
-            found[c] = i;
-            c += 1;
-        }
-    }
-    Few {
-        at: found,
-        count: c,
-    }
-}
-
-fn keep(x: u8, on: bool) -> u8
-    ensures { result ≡ pick on x 0 }
-{
-    if on { x } else { 0 }
-}
-
-fn one_if(on: bool) -> usize
-    ensures { result ≡ bit on }
-{
-    if on { 1 } else { 0 }
+    places(&miss[..n], true)
 }
 
 // The weights of d equations in one unknown, from its row of the inverse; those of padding are 0.
 fn weights(line: [u8; 3], d: usize) -> [u8; 3]
     ensures { result ≡ three_of (weight_of line d) }
 {
-    [
-        keep(line[0], 0 < d),
-        keep(line[1], 1 < d),
-        keep(line[2], 2 < d),
-    ]
+    array::from_fn(|r| if r < d { line[r] } else { 0 })
 }
 
 // The coefficients of the parity units `is`, a row each.
@@ -87,11 +57,12 @@ fn coefs_of(is: [usize; 3]) -> [[u8; 16]; 3]
     requires { (r : ℕ) → r < 3 → get_or is r 0 < 3 }
     ensures { (r : ℕ) → r < 3 → (j : ℕ) → j < 16 → ent result r j ≡ coefficient (get_or is r 0) j }
 {
-    [
-        systems::row(is[0]),
-        systems::row(is[1]),
-        systems::row(is[2]),
-    ]
+    array::from_fn(
+        |r|
+            requires { (r < 3) × ((r : ℕ) → r < 3 → get_or is r 0 < 3) }
+            ensures { (j : ℕ) → j < 16 → get_or result j 0 ≡ coefficient (get_or is r 0) j }
+        { systems::row(is[r]) },
+    )
 }
 
 // The coefficients of the data units `ks` in parity unit i.
@@ -99,250 +70,160 @@ fn coefs_across(i: usize, ks: [usize; 3]) -> [u8; 3]
     requires { (i < 3) × ((c : ℕ) → c < 3 → get_or ks c 0 < 16) }
     ensures { result ≡ three_of (λ c. coefficient i (get_or ks c 0)) }
 {
-    [
-        systems::coef(i, ks[0]),
-        systems::coef(i, ks[1]),
-        systems::coef(i, ks[2]),
-    ]
-}
-
-// The coefficient of a slot: the weight of the parity unit that stands in, which is number c, or what the equations bring of the slot's data unit,
-// whose coefficients in them are `col`.
-fn slot_coef(
-    powers: &[u8; 256],
-    logs: &[u8; 256],
-    w: [u8; 3],
-    col: [u8; 3],
-    missing: bool,
-    c: usize,
-) -> u8
-    requires { Tables powers.now logs.now × ((missing ≡ true → c < 3)) }
-    ensures { result ≡ pick missing (get_or w c 0) (dot_of w col) }
-{
-    if missing {
-        return w[c];
-    }
-    systems::dot(powers, logs, w, col)
-}
-
-// The row of a lost data unit, from its weights w.
-fn data_row(
-    powers: &[u8; 256],
-    logs: &[u8; 256],
-    miss: [bool; 19],
-    n: usize,
-    w: [u8; 3],
-    is: [usize; 3],
-) -> [u8; 16]
-    requires { Tables powers.now logs.now × (n ≤ 16) × (length (those (flag miss) n) ≤ 3) × ((r : ℕ) → r < 3 → get_or is r 0 < 3) }
-    ensures { (j : ℕ) → j < n → get_or result j 0 ≡ slot_coef w is (flag miss j) (count (flag miss) j) j }
-{
-    let lines = coefs_of(is);
-    let mut row = [0u8; 16];
-    let mut c: usize = 0;
-    for j in 0..n {
-        let col = [lines[0][j], lines[1][j], lines[2][j]];
-        row[j] = slot_coef(powers, logs, w, col, miss[j], c);
-        c += one_if(miss[j]);
-    }
-    row
-}
-
-// The row of the lost data unit number c, of d, where m is the inverse; zeros beyond them.
-fn lost_row(
-    powers: &[u8; 256],
-    logs: &[u8; 256],
-    miss: [bool; 19],
-    n: usize,
-    m: [[u8; 3]; 3],
-    is: [usize; 3],
-    d: usize,
-    c: usize,
-) -> [u8; 16]
-    requires { Tables powers.now logs.now × (n ≤ 16) × (length (those (flag miss) n) ≤ 3) × ((r : ℕ) → r < 3 → get_or is r 0 < 3) × (c < 3) }
-    ensures { (j : ℕ) → j < n → get_or result j 0 ≡ lost_coef m is d (flag miss) c j }
-{
-    if c < d {
-        let line = m[c];
-        return data_row(powers, logs, miss, n, weights(line, d), is);
-    }
-    [0u8; 16]
-}
-
-// The rows of the lost data units.
-fn lost_rows(
-    powers: &[u8; 256],
-    logs: &[u8; 256],
-    miss: [bool; 19],
-    n: usize,
-    m: [[u8; 3]; 3],
-    is: [usize; 3],
-    d: usize,
-) -> [[u8; 16]; 3]
-    requires { Tables powers.now logs.now × (n ≤ 16) × (length (those (flag miss) n) ≤ 3) × ((r : ℕ) → r < 3 → get_or is r 0 < 3) }
-    ensures { (c : ℕ) → c < 3 → (j : ℕ) → j < n → ent result c j ≡ lost_coef m is d (flag miss) c j }
-{
-    [
-        lost_row(powers, logs, miss, n, m, is, d, 0),
-        lost_row(powers, logs, miss, n, m, is, d, 1),
-        lost_row(powers, logs, miss, n, m, is, d, 2),
-    ]
-}
-
-// The coefficient of a slot in a parity unit: its own, and what the lost units bring, in which the slot counts for `col`.
-fn parity_coef(
-    powers: &[u8; 256],
-    logs: &[u8; 256],
-    own: u8,
-    across: [u8; 3],
-    col: [u8; 3],
-    missing: bool,
-) -> u8
-    requires { Tables powers.now logs.now }
-    ensures { result ≡ pick missing 0 own ⊕ dot_of across col }
-{
-    keep(own, !missing) ^ systems::dot(powers, logs, across, col)
-}
-
-// The row of parity unit i, from the rows of the lost data units.
-fn parity_row(
-    powers: &[u8; 256],
-    logs: &[u8; 256],
-    miss: [bool; 19],
-    n: usize,
-    ks: [usize; 3],
-    lines: [[u8; 16]; 3],
-    i: usize,
-) -> [u8; 16]
-    requires { Tables powers.now logs.now × (n ≤ 16) × (i < 3) × ((c : ℕ) → c < 3 → get_or ks c 0 < 16) }
-    ensures { (j : ℕ) → j < n → get_or result j 0 ≡ parity_coef ks (three_of (λ r. ent lines r j)) (flag miss j) i j }
-{
-    let own = systems::row(i);
-    let across = coefs_across(i, ks);
-    let mut row = [0u8; 16];
-    for j in 0..n {
-        let col = [lines[0][j], lines[1][j], lines[2][j]];
-        row[j] = parity_coef(powers, logs, own[j], across, col, miss[j]);
-    }
-    row
-}
-
-// The row of the missing unit number q: a lost data unit, or the unit u, which is parity; zeros where there is none.
-fn unit_row(
-    powers: &[u8; 256],
-    logs: &[u8; 256],
-    miss: [bool; 19],
-    n: usize,
-    ks: [usize; 3],
-    d: usize,
-    lines: [[u8; 16]; 3],
-    total: usize,
-    q: usize,
-    u: usize,
-) -> [u8; 16]
-    requires { Tables powers.now logs.now × (n ≤ 16) × (q < 3) × ((c : ℕ) → c < 3 → get_or ks c 0 < 16) × ((d ≤ q → q < total → (n ≤ u) × (u < n + 3))) }
-    ensures { (j : ℕ) → j < n → get_or result j 0 ≡ unit_coef ks d lines total (flag miss j) q (u - n) j }
-{
-    if q < d {
-        return lines[q];
-    }
-    if q < total {
-        return parity_row(powers, logs, miss, n, ks, lines, u - n);
-    }
-    [0u8; 16]
-}
-
-// The rows of the missing units, from the solved equations.
-fn solved_rows(
-    powers: &[u8; 256],
-    logs: &[u8; 256],
-    miss: [bool; 19],
-    n: usize,
-    k: usize,
-) -> [[u8; 16]; 3]
-    requires { Tables powers.now logs.now × Solvable n k (flag miss) }
-    ensures { RowsFor n k (flag miss) result }
-{
-    let gone = missing_below(miss, n + k);
-    let lost = missing_below(miss, n);
-    let there = present_parity(miss, n, k);
-    let units = gone.at;
-    let total = gone.count;
-    let ks = lost.at;
-    let d = lost.count;
-    let is = there.at;
-    let inverse = systems::inverse(powers, logs, systems::system(is, ks, d));
-    let lines = lost_rows(powers, logs, miss, n, inverse, is, d);
-    [
-        unit_row(powers, logs, miss, n, ks, d, lines, total, 0, units[0]),
-        unit_row(powers, logs, miss, n, ks, d, lines, total, 1, units[1]),
-        unit_row(powers, logs, miss, n, ks, d, lines, total, 2, units[2]),
-    ]
-}
-
-// The coefficients of the missing unit number q, of `total`, where it is the unit u, which is parity.
-fn own_row(n: usize, total: usize, q: usize, u: usize) -> [u8; 16]
-    requires { (q < total → (n ≤ u) × (u < n + 3)) }
-    ensures { q < total → (j : ℕ) → j < 16 → get_or result j 0 ≡ coefficient (u - n) j }
-{
-    if q < total {
-        return systems::row(u - n);
-    }
-    [0u8; 16]
+    array::from_fn(|c| systems::coef(i, ks[c]))
 }
 
 // The rows of missing units that are all parity: no data is lost, so that each is the sum that it stands for.
-fn own_rows(units: [usize; 3], total: usize, n: usize) -> [[u8; 16]; 3]
-    requires { (q : ℕ) → q < 3 → q < total → (n ≤ get_or units q 0) × (get_or units q 0 < n + 3) }
-    ensures { (q : ℕ) → q < 3 → q < total → (j : ℕ) → j < 16 → ent result q j ≡ coefficient (get_or units q 0 - n) j }
+fn own_rows(gone: Few, n: usize) -> [[u8; 16]; 3]
+    requires { (gone.count ≤ 3) × ((q : ℕ) → q < 3 → q < gone.count → (n ≤ get_or gone.at q 0) × (get_or gone.at q 0 < n + 3)) }
+    ensures { (q : ℕ) → q < gone.count → (j : ℕ) → j < 16 → ent result q j ≡ coefficient (get_or gone.at q 0 - n) j }
 {
-    [
-        own_row(n, total, 0, units[0]),
-        own_row(n, total, 1, units[1]),
-        own_row(n, total, 2, units[2]),
-    ]
+    let mut rows = [[0u8; 16]; 3];
+    for q in 0..gone.count {
+        rows[q] = systems::row(gone.at[q] - n);
+    }
+    rows
+}
+
+// A group of n data and k parity units, of which at most k are missing.
+#[derive(Clone, Copy)]
+struct Group {
+    miss: [bool; 19],
+    n: usize,
+    k: usize,
+    ghost solvable: { Solvable n k (flag miss) },
+}
+
+impl Group {
+    // The missing units.
+    fn gone(&self) -> Few
+        ensures { Holds (those (flag self.now.miss) (self.now.n + self.now.k)) result.at result.count }
+    {
+        missing_below(self.miss, self.n + self.k)
+    }
+
+    // The missing data units.
+    fn lost(&self) -> Few
+        ensures { Holds (those (flag self.now.miss) self.now.n) result.at result.count }
+    {
+        missing_below(self.miss, self.n)
+    }
+
+    // The parity units that are there, counted from the first.
+    fn there(&self) -> Few
+        ensures { Holds (those (present self.now.miss self.now.n) self.now.k) result.at result.count }
+    {
+        places(&self.miss[self.n..self.n + self.k], false)
+    }
+
+    // The row of a lost data unit, from its weights: in the slot of a missing data unit the parity unit that stands in counts for its weight, in any
+    // other the data unit for what the equations bring of it.
+    fn data_row(&self, tables: &Tables, weights: [u8; 3], is: [usize; 3]) -> [u8; 16]
+        requires { (r : ℕ) → r < 3 → get_or is r 0 < 3 }
+        ensures { (j : ℕ) → j < self.now.n → get_or result j 0 ≡ slot_coef weights is (flag self.now.miss j) (count (flag self.now.miss) j) j }
+    {
+        let lines = coefs_of(is);
+        let mut row = [0u8; 16];
+        let mut c: usize = 0;
+        for j in 0..self.n {
+            if self.miss[j] {
+                row[j] = weights[c];
+                c += 1;
+            } else {
+                row[j] = systems::dot(tables, weights, [lines[0][j], lines[1][j], lines[2][j]]);
+            }
+        }
+        row
+    }
+
+    // The rows of the d lost data units, where m is the inverse; zeros beyond them.
+    fn lost_rows(&self, tables: &Tables, m: [[u8; 3]; 3], is: [usize; 3], d: usize) -> [[u8; 16]; 3]
+        requires { (d ≤ 3) × ((r : ℕ) → r < 3 → get_or is r 0 < 3) }
+        ensures { (c : ℕ) → c < 3 → (j : ℕ) → j < self.now.n → ent result c j ≡ lost_coef m is d (flag self.now.miss) c j }
+    {
+        let mut rows = [[0u8; 16]; 3];
+        for c in 0..d {
+            rows[c] = self.data_row(tables, weights(m[c], d), is);
+        }
+        rows
+    }
+
+    // The row of parity unit i, from the rows of the lost data units: its own coefficient of a slot, and what the lost units bring.
+    fn parity_row(
+        &self,
+        tables: &Tables,
+        ks: [usize; 3],
+        lines: [[u8; 16]; 3],
+        i: usize,
+    ) -> [u8; 16]
+        requires { (i < 3) × ((c : ℕ) → c < 3 → get_or ks c 0 < 16) }
+        ensures { (j : ℕ) → j < self.now.n → get_or result j 0 ≡ parity_coef ks (three_of (λ r. ent lines r j)) (flag self.now.miss j) i j }
+    {
+        let own = systems::row(i);
+        let across = coefs_across(i, ks);
+        let mut row = [0u8; 16];
+        for j in 0..self.n {
+            let brought = systems::dot(tables, across, [lines[0][j], lines[1][j], lines[2][j]]);
+            row[j] = if self.miss[j] {
+                brought
+            } else {
+                own[j] ^ brought
+            };
+        }
+        row
+    }
+
+    // The rows of the missing units, from the solved equations: those of the lost data units, then those of parity units.
+    fn solved_rows(&self, gone: Few) -> [[u8; 16]; 3]
+        requires { Holds (those (flag self.now.miss) (self.now.n + self.now.k)) gone.at gone.count }
+        ensures { RowsFor self.now.n self.now.k (flag self.now.miss) result }
+    {
+        let lost = self.lost();
+        let is = self.there().at;
+        let tables = Tables::new();
+        let inverse = systems::inverse(&tables, systems::system(is, lost.at, lost.count));
+        let lines = self.lost_rows(&tables, inverse, is, lost.count);
+        let mut rows = lines;
+        for q in lost.count..gone.count {
+            rows[q] = self.parity_row(&tables, lost.at, lines, gone.at[q] - self.n);
+        }
+        rows
+    }
 }
 
 // For each missing unit, lowest first, its coefficients over the slots. Parity units alone, and one data unit alone, which is a plain sum, need no
-// equations: that is all there is after one failure. For the others the field's tables are taken once, and lent to all that makes products.
+// equations: that is all there is after one failure. For the others the field's tables are made once, and lent to all that makes products.
 pub fn rows(miss: [bool; 19], n: usize, k: usize) -> [[u8; 16]; 3]
     requires { Solvable n k (flag miss) }
     ensures { RowsFor n k (flag miss) result }
 {
-    let gone = missing_below(miss, n + k);
-    let units = gone.at;
-    if n <= units[0] {
-        return own_rows(units, gone.count, n);
+    let group = Group { miss, n, k };
+    let gone = group.gone();
+    if n <= gone.at[0] {
+        return own_rows(gone, n);
     }
     if gone.count == 1 {
         return [[1u8; 16], [0u8; 16], [0u8; 16]];
     }
-    solved_rows(&field::powers(), &field::logs(), miss, n, k)
+    group.solved_rows(gone)
 }
 
-// The unit that slot j reads; where data unit j is missing it is number c of those.
-fn slot_unit(n: usize, is: [usize; 3], missing: bool, c: usize, j: usize) -> usize
-    requires { (n ≤ 16) × ((r : ℕ) → r < 3 → get_or is r 0 < 3) × ((missing ≡ true → c < 3)) }
-    ensures { result ≡ pick missing (n + get_or is c 0) j }
-{
-    if missing {
-        return n + is[c];
-    }
-    j
-}
-
-// The units that the slots read.
+// The units that the slots read: slot j reads data unit j, or where that is missing the parity unit that stands in.
 pub fn slots(miss: [bool; 19], n: usize, k: usize) -> [usize; 16]
     requires { Solvable n k (flag miss) }
     ensures { (j : ℕ) → j < n → get_or result j 0 ≡ slot n k (flag miss) j }
 {
-    let there = present_parity(miss, n, k);
-    let is = there.at;
+    let group = Group { miss, n, k };
+    let there = group.there();
     let mut units = [0usize; 16];
     let mut c: usize = 0;
     for j in 0..n {
-        units[j] = slot_unit(n, is, miss[j], c, j);
-        c += one_if(miss[j]);
+        if miss[j] {
+            units[j] = n + there.at[c];
+            c += 1;
+        } else {
+            units[j] = j;
+        }
     }
     units
 }

@@ -1,57 +1,49 @@
 -- `parity::slots`. The loop keeps: the units of the slots below j, and how many data units below j are missing.
-use mathlib.Core.Path.{refl, sym, ap₂, ◌∙◌}
-use Prim.Native.Nat.{ℕ, ◌+◌}
-use native.Mathlib.Nat.{not-suc-le-zero}
-use native.Mathlib.Omega.{arith}
-use lib.ListN.{length-set}
-use Rattle.lists.specs.Count.{count, count-le, count_next}
-use Rattle.lists.specs.Tabulate.{fill_step}
-use Rattle.parity.specs.Rows.{slot}
+use Rattle.std.proofs.Common.{◌≡◌, ◌<◌, ◌+◌, ℕ, refl, sym, arith, get_or}
+use Rattle.lists.specs.Pick.{pick, pick_true, pick-false}
 use Rattle.parity.specs.Matrix.{flag}
-use Rattle.parity.specs.Steps.{rank_lt}
-use Rattle.lists.specs.Pick.{bit_le}
 use Rattle.parity.specs.Restores.{lost_most}
+use Rattle.parity.specs.Steps.{rank_lt}
 use Rattle.parity.specs.Made.{is_lt, slot_made}
+use Rattle.parity.proofs.Turns.{filled-none, filled-missing, filled-there}
 use Rattle.parity.proofs.slots.Goals as goal
-
-pub present_parity-there-requires : goal.present_parity-there-requires
-present_parity-there-requires c = (c.requires.data_max, c.requires.parity_max)
+use Rattle.parity.proofs.slots.Goals.{then-miss-j, else-miss-j}
 
 pub loop-j-init : goal.loop-j-init
-unfolding count
-loop-j-init c = (omega arith, refl, refl, λ x h. absurd (not-suc-le-zero h))
+loop-j-init c = (omega arith, filled-none _ _ _ refl)
 
-pub bounds-miss-j : goal.bounds-miss-j
-bounds-miss-j c = omega (arith, c.requires.data_max)
+pub bounds-there-c : goal.bounds-there-c
+bounds-there-c c = let a = c.args in
+    rank_lt (flag a.miss) a.n c.loop-j.j c.loop-j.invariant.1.count_is c.loop-j-test.true c.if-miss-j.true (lost_most a.n a.k (flag a.miss) c.requires)
 
-pub slot_unit-requires : goal.slot_unit-requires
-slot_unit-requires c = let a = c.args in
-    let l = c.loop-j in
-    let m = flag a.miss in
-    (c.requires.data_max, is_lt a.n a.k m c.requires c.present_parity-there.ensures, λ t. rank_lt m a.n l.j l.invariant.2 c.loop-j-test.true t (lost_most a.n a.k m c.requires))
+pub offset_bounds-there-c : goal.offset_bounds-there-c
+offset_bounds-there-c c = let h : c.loop-j.c < 3 = bounds-there-c c in omega arith
 
-pub offset_bounds-units-j : goal.offset_bounds-units-j
-offset_bounds-units-j c = omega (arith, c.requires.data_max)
-
-pub bounds-units-j : goal.bounds-units-j
-bounds-units-j c = omega (arith, c.requires.data_max)
-
-pub bounds-miss-j-in-loop-j : goal.bounds-miss-j-in-loop-j
-bounds-miss-j-in-loop-j c = omega (arith, c.requires.data_max)
+pub overflow_add-units : goal.overflow_add-units
+overflow_add-units c = let a = c.args in
+    let below = rank_lt (flag a.miss) a.n c.loop-j.j c.loop-j.invariant.1.count_is c.loop-j-test.true c.if-miss-j.true (lost_most a.n a.k (flag a.miss) c.requires) in
+    let h : get_or c.there-there.result.at c.loop-j.c 0 < 3 = is_lt a.n a.k (flag a.miss) c.requires c.there-there.ensures c.loop-j.c below in
+    omega (arith, c.requires.data_max)
 
 pub overflow_add-c : goal.overflow_add-c
-overflow_add-c c = let l = c.loop-j in let m = flag c.args.miss in omega (arith, c.requires.data_max, c.one_if-c.ensures, l.invariant.2, count-le m l.j, bit_le (m l.j))
+overflow_add-c c = let a = c.args in
+    let h : c.loop-j.c < 3 = rank_lt (flag a.miss) a.n c.loop-j.j c.loop-j.invariant.1.count_is c.loop-j-test.true c.if-miss-j.true (lost_most a.n a.k (flag a.miss) c.requires) in
+    omega arith
 
 pub loop-j-preserved : goal.loop-j-preserved
-loop-j-preserved c = let a = c.args in
+loop-j-preserved c =
+    let a = c.args in
     let l = c.loop-j in
-    let m = flag a.miss in (
+    let m = flag a.miss in
+    let fits : l.j < 16 = omega (arith, c.requires.data_max) in
+    let made = λ (x : ℕ) (e : x ≡ pick (m l.j) (a.n + get_or c.there-there.result.at l.c 0) l.j).
+    slot_made a.n a.k m c.requires l.j c.there-there.ensures c.loop-j-test.true l.invariant.1.count_is e in (
       omega arith,
-      length-set l.units l.j _ ∙ l.invariant.1,
-      ap₂ (λ (x y : ℕ). x + y) l.invariant.2 c.one_if-c.ensures ∙ sym (count_next m l.j),
-      fill_step (slot a.n a.k m) l.units l.j _ 0 (omega (arith, c.requires.data_max))
-          (slot_made a.n a.k m c.requires l.j c.present_parity-there.ensures c.loop-j-test.true l.invariant.2 c.slot_unit.ensures) l.invariant.3,
+      elim c.if-miss-j.branch [
+        | then-miss-j w ↦ filled-missing l.invariant.1 fits (made _ (sym (pick_true (m l.j) _ l.j w.if-miss-j.true))) w.units-is w.if-miss-j.true w.c-is
+        | else-miss-j w ↦ filled-there l.invariant.1 fits (made _ (sym (pick-false (m l.j) (a.n + get_or c.there-there.result.at l.c 0) l.j w.if-miss-j.false))) w.units-is w.if-miss-j.false w.c-is
+      ],
     )
 
 pub returns : goal.returns
-returns c = λ j h. c.loop-j.invariant.3 j (omega arith)
+returns c = λ j h. c.loop-j.invariant.1.done j (omega arith)
