@@ -1,8 +1,9 @@
 -- The missing unit that is filled by a plain sum: which one that is, and the sum.
-use Rattle.std.specs.Prelude.{◌≡◌, refl, Bool, true, false, List, ℕ, ◌+◌, ◌*◌, ◌<◌, ◌≤◌, eqb, length, get_or, set, replicate}
-use Rattle.std.proofs.Common.{sym, ap, ap₂, ◌∙◌, ⊎_elim, le_trans, arith, get_or-set_same, get_or-set_other, eq-eqb, ne_eqb}
+use Rattle.std.specs.Prelude.{◌≡◌, refl, Bool, true, false, List, ℕ, ◌+◌, ◌*◌, ◌<◌, ◌≤◌, eqb, length, get_or, set, replicate, Option, Some, None}
+use Rattle.std.proofs.Common.{sym, ap, ap₂, ◌∙◌, ⊎_elim, le_trans, arith, get_or-set_same, get_or-set_other, eq-eqb, ne_eqb, eqb-true}
+use Rattle.std.specs.Option.{option_eq}
 use Rattle.std.proofs.lemmas.List.{get_or-replicate}
-use Rattle.lists.specs.Pick.{pick, pick_true, pick-false, either_way, equal_or_not}
+use Rattle.lists.specs.Pick.{pick, pick_true, pick-false, either_way, equal_or_not, clash}
 use Rattle.field.specs.Byte.{mul}
 use Rattle.field.proofs.Laws.{one-mul}
 use Rattle.field.specs.Sum.{sum_to, sum_cong}
@@ -21,6 +22,16 @@ pub closes : (n : ℕ) (miss : ℕ → Bool) (q : ℕ) → q + 1 ≡ closing_of 
 closes n miss q e =
     ⊎_elim (λ (t : miss n ≡ true). absurd (omega (arith, e ∙ pick_true (miss n) 0 (length (lost n miss)) t)))
     (λ (t : miss n ≡ false). (t, e ∙ pick-false (miss n) 0 (length (lost n miss)) t)) (either_way (miss n))
+
+-- the same, as the code answers it: counted from 0
+abbrev pub IsClosing : Option ℕ → ℕ → (ℕ → Bool) → Type 0
+IsClosing None n miss = closing_of n miss ≡ 0
+IsClosing (Some q) n miss = q + 1 ≡ closing_of n miss
+
+-- the test of the code
+pub is_due : (last : Option ℕ) (q n : ℕ) (miss : ℕ → Bool) {t : Bool} → t ≡ option_eq eqb last (Some q) → t ≡ true → IsClosing last n miss → q + 1 ≡ closing_of n miss
+is_due None q n miss e t h = clash false (sym e ∙ t) refl
+is_due (Some p) q n miss e t h = ap (◌+ 1) (sym (eqb-true p q (sym e ∙ t))) ∙ h
 
 -- the unit read for data unit j: parity unit 0 in place of u
 abbrev pub stand_in : ℕ → ℕ → ℕ → ℕ

@@ -1,5 +1,5 @@
 -- The loop that fills the missing units, one run each: what it has done after q of them, a turn, and that it comes to the whole.
-use Rattle.std.specs.Prelude.{◌≡◌, refl, Bool, true, false, List, [], ℕ, suc, ◌+◌, ◌-◌, ◌*◌, ◌/◌, ◌<◌, ◌≤◌, ltb, eqb, length}
+use Rattle.std.specs.Prelude.{◌≡◌, refl, Bool, true, false, List, [], ℕ, suc, ◌+◌, ◌-◌, ◌*◌, ◌/◌, ◌<◌, ◌≤◌, ltb, eqb, length, Option}
 use Rattle.std.proofs.Math.Path.{sym, ap, ap₂, subst⁻¹}
 use Rattle.std.proofs.Common.{◌∙◌, subst, suc-mul, le_trans, le-add_right, div-add-mod', div-lt_iff_lt-mul, le-div_iff_mul-le, arith}
 use Rattle.std.proofs.Math.Logic.{⊎_elim}
@@ -24,7 +24,7 @@ use Rattle.parity.specs.Made.{held_at, gone_most, gone_data}
 use Rattle.parity.specs.Rows.{slot, row_of, row_gives}
 use Rattle.coding.specs.Buffer.{column, rebuilt_byte, rebuilt_of}
 use Rattle.coding.specs.Units.{unit_end, units_apart}
-use Rattle.coding.specs.Closing.{closing_of, closes, closing_sum}
+use Rattle.coding.specs.Closing.{closing_of, IsClosing, closes, closing_sum}
 
 -- the first q missing units are filled
 pub record Mended (n k unit : ℕ) (miss : ℕ → Bool) (old buf : List ℕ) (q : ℕ) : Type 0 where
@@ -33,12 +33,12 @@ pub record Mended (n k unit : ℕ) (miss : ℕ → Bool) (old buf : List ℕ) (q
 
 -- what is worked out for a set of missing units before the loop: the units, their rows, where the slots start, and which missing unit is a
 -- plain sum
-pub record Ready (n k unit : ℕ) (miss : ℕ → Bool) (units : List ℕ) (total : ℕ) (rows : List (List ℕ)) (starts : List ℕ) (last : ℕ) : Type 0 where
+pub record Ready (n k unit : ℕ) (miss : ℕ → Bool) (units : List ℕ) (total : ℕ) (rows : List (List ℕ)) (starts : List ℕ) (last : Option ℕ) : Type 0 where
   pub solvable : Solvable n k miss
   pub units_are : Holds (gone n k miss) units total
   pub rows_are : RowsFor n k miss rows
   pub starts_are : (j : ℕ) → j < n → get_or starts j 0 ≡ slot n k miss j * unit
-  pub last_is : last ≡ closing_of n miss
+  pub last_is : IsClosing last n miss
 
 pick_same : {A : Type 0} (t : Bool) {a b : A} → a ≡ b → pick t a b ≡ b
 pick_same true e = e

@@ -1,18 +1,21 @@
 // Encoding and rebuilding of one group in one buffer, unit by unit, through the kernel.
 #![tactic(auto)]
 
-ghost use Rattle.std.specs.Prelude.{◌≡◌, ℕ, ◌+◌, ◌-◌, ◌*◌, ◌<◌, ◌≤◌, length, get_or};
+ghost use Rattle.std.specs.Prelude.{◌≡◌, ℕ, ◌+◌, ◌-◌, ◌*◌, ◌^◌, ◌<◌, ◌≤◌, length, get_or};
 ghost use Rattle.lists.specs.Span.{Span};
 ghost use Rattle.parity.specs.Matrix.{flag, Holds};
-ghost use Rattle.parity.specs.Group.{Solvable, lost, gone};
+ghost use Rattle.lists.specs.Those.{those};
+ghost use Rattle.parity.specs.Group.{Solvable, lost};
 ghost use Rattle.coding.specs.Buffer.{encoded_of, rebuilt_of};
-ghost use Rattle.coding.specs.Closing.{closing_of, closing_sum};
+ghost use Rattle.coding.specs.Closing.{IsClosing, closing_sum};
+
+use parity::Few;
 
 const DATA_UNITS: [usize; 16] = [0, 1, 2, 3, 4, 5, 6, 7, 8, 9, 10, 11, 12, 13, 14, 15];
 
 // Where the n units start in a buffer of units of `unit` bytes.
-fn starts_of(units: [usize; 16], n: usize, unit: usize, size: usize) -> [usize; 16]
-    requires { (n ≤ 16) × ((j : ℕ) → j < n → get_or units j 0 * unit ≤ size) }
+fn starts_of(units: [usize; 16], n: usize, unit: usize) -> [usize; 16]
+    requires { (n ≤ 16) × ((j : ℕ) → j < n → get_or units j 0 * unit < 2 ^ 64) }
     ensures { (j : ℕ) → j < n → get_or result j 0 ≡ get_or units j 0 * unit }
 {
     let mut starts = [0usize; 16];
@@ -27,25 +30,22 @@ pub fn encode(buf: &mut [u8], n: usize, k: usize, unit: usize)
     requires { (n ≤ 16) × (k ≤ 3) × (0 < unit) × (length buf.old ≡ (n + k) * unit) }
     ensures { buf.new ≡ encoded_of n unit buf.old }
 {
-    let starts = starts_of(DATA_UNITS, n, unit, buf.len());
-    let mut at = n * unit;
+    let starts = starts_of(DATA_UNITS, n, unit);
     for i in 0..k {
-        let coefs = systems::row(i);
-        kernel::combine_in(buf, at, &starts, &coefs, n, unit);
-        at += unit;
+        let at = (n + i) * unit;
+        kernel::combine_in(buf, at, &starts, &systems::row(i), n, unit);
     }
 }
 
-// Which missing unit `fill_last` can fill, counted from 1: the last lost data unit, where parity unit 0 is there; 0 for none.
-fn closing(miss: [bool; 19], n: usize) -> usize
+// The missing unit that `fill_last` can fill: the last lost data unit, where parity unit 0 is there.
+fn closing(miss: [bool; 19], n: usize) -> Option<usize>
     requires { (n ≤ 16) × (length (lost n (flag miss)) ≤ 3) }
-    ensures { result ≡ closing_of n (flag miss) }
+    ensures { IsClosing result n (flag miss) }
 {
-    let gone = parity::missing_below(miss, n);
     if miss[n] {
-        return 0;
+        return None;
     }
-    gone.count
+    parity::missing_below(miss, n).count.checked_sub(1)
 }
 
 // Fills data unit u, where the other data units and parity unit 0 are right. Parity unit 0 has ones for coefficients, so that u is the plain sum of
@@ -56,34 +56,31 @@ fn fill_last(buf: &mut [u8], n: usize, unit: usize, u: usize)
 {
     let mut units = DATA_UNITS;
     units[u] = n;
-    let starts = starts_of(units, n, unit, buf.len());
-    let ones = [1u8; 16];
-    kernel::combine_in(buf, u * unit, &starts, &ones, n, unit);
+    let starts = starts_of(units, n, unit);
+    kernel::combine_in(buf, u * unit, &starts, &[1u8; 16], n, unit);
 }
 
-// Fills the `total` missing units of a group of n data and k parity units, lowest first: by its row each, but number `last`, counted from 1.
+// Fills the missing units of a group of n data and k parity units, lowest first: by its row each, but number `last`.
 fn fill_all(
     buf: &mut [u8],
     n: usize,
     k: usize,
     unit: usize,
     miss: [bool; 19],
-    units: [usize; 3],
-    total: usize,
-    last: usize,
+    gone: Few,
+    last: Option<usize>,
 )
-    requires { Solvable n k (flag miss) × (0 < unit) × (length buf.old ≡ (n + k) * unit) × Holds (gone n k (flag miss)) units total × (last ≡ closing_of n (flag miss)) }
+    requires { Solvable n k (flag miss) × (0 < unit) × (length buf.old ≡ (n + k) * unit) × Holds (those (flag miss) (n + k)) gone.at gone.count × IsClosing last n (flag miss) }
     ensures { buf.new ≡ rebuilt_of n k unit (flag miss) buf.old }
 {
     let rows = parity::rows(miss, n, k);
-    let starts = starts_of(parity::slots(miss, n, k), n, unit, buf.len());
-    for q in 0..total {
-        let u = units[q];
-        if q + 1 == last {
+    let starts = starts_of(parity::slots(miss, n, k), n, unit);
+    for q in 0..gone.count {
+        let u = gone.at[q];
+        if last == Some(q) {
             fill_last(buf, n, unit, u);
         } else {
-            let coefs = rows[q];
-            kernel::combine_in(buf, u * unit, &starts, &coefs, n, unit);
+            kernel::combine_in(buf, u * unit, &starts, &rows[q], n, unit);
         }
     }
 }
@@ -93,15 +90,11 @@ pub fn rebuild(buf: &mut [u8], n: usize, k: usize, unit: usize, miss: [bool; 19]
     requires { Solvable n k (flag miss) × (0 < unit) × (length buf.old ≡ (n + k) * unit) }
     ensures { buf.new ≡ rebuilt_of n k unit (flag miss) buf.old }
 {
-    let found = parity::missing_below(miss, n + k);
-    let units = found.at;
-    let total = found.count;
+    let gone = parity::missing_below(miss, n + k);
     let last = closing(miss, n);
-    if total == 1 {
-        if last == 1 {
-            fill_last(buf, n, unit, units[0]);
-            return;
-        }
+    if gone.count == 1 && last == Some(0) {
+        fill_last(buf, n, unit, gone.at[0]);
+    } else {
+        fill_all(buf, n, k, unit, miss, gone, last);
     }
-    fill_all(buf, n, k, unit, miss, units, total, last);
 }
