@@ -10,15 +10,12 @@ use Rattle.bench_products.proofs.fill.Goals as goal
 pub loop-i-init : goal.loop-i-init
 loop-i-init c = (omega arith, refl, λ x h. absurd (not-suc-le-zero h))
 
-pub mul_by-requires : goal.mul_by-requires
-mul_by-requires c = c.requires.0
-
 pub loop-i-preserved : goal.loop-i-preserved
 loop-i-preserved c = let a = c.args in
     let l = c.loop-i in (
       omega arith,
       length-set l.out l.i _ ∙ l.invariant.1,
-      fill_step (λ x. mul (get_or a.a.now x 0) (get_or a.b.now x 0)) l.out l.i _ 0 (omega arith) c.mul_by.ensures l.invariant.2,
+      fill_step (λ x. mul (get_or a.a.now x 0) (get_or a.b.now x 0)) l.out l.i _ 0 (omega arith) c.mul.ensures l.invariant.2,
     )
 
 pub returns : goal.returns
