@@ -1,12 +1,23 @@
 // The public calls of the count of missing units: what the service panel shows, and the audit.
 #![tactic(auto)]
 
+ghost use Rattle.lists.specs.Numbered.{answer_number};
 ghost use Rattle.pool.specs.Calls.{Audits, Panels};
+ghost use Rattle.pool_count.specs.Shown.{panel_of};
 
 use homes::Record;
+use lists::Refusal;
 use numbers::Layout;
 
 // The units that wait for repair, the targets that have failed, and how many of these are repaired.
+#[derive(Clone, Copy)]
+pub struct PanelCounts {
+    pub waiting: u64,
+    pub failed: u64,
+    pub repaired: u64,
+}
+
+// What C is handed: the refusal's number, 0 where there is none, and the panel; zeros where refused.
 #[repr(C)]
 #[derive(Clone, Copy)]
 pub struct Counts {
@@ -16,36 +27,27 @@ pub struct Counts {
     pub repaired: u64,
 }
 
-// What the record says, with no walk over the pool; zeros where refused. The image is lent for its length.
-pub fn panel(y: Layout, r: Record, image: &[u8]) -> Counts
-    ensures { Panels y r image.now result.refusal result.waiting result.failed result.repaired }
+// What the record says, with no walk over the pool. The image is lent for its length.
+pub fn panel(y: Layout, r: Record, image: &[u8]) -> Result<PanelCounts, Refusal>
+    ensures { let shown = panel_of result in Panels y r image.now (answer_number result) shown.waiting shown.failed shown.repaired }
 {
-    let refusal = checks::pool_refusal(y, r, image.len());
-    if refusal != 0 {
-        return Counts {
-            refusal,
-            waiting: 0,
-            failed: 0,
-            repaired: 0,
-        };
-    }
-    Counts {
-        refusal: 0,
+    checks::check_pool(y, r, image.len())?;
+    Ok(PanelCounts {
         waiting: r.waiting,
         failed: r.k,
         repaired: r.q,
-    }
+    })
 }
 
-// 14 where the count in the record is not that of the missing units. The image is lent for its length.
-pub fn audit(y: Layout, r: Record, image: &[u8]) -> u64
-    ensures { Audits y r image.now result }
+// Refused with 14 where the count in the record is not that of the missing units. The image is lent for its length.
+pub fn audit(y: Layout, r: Record, image: &[u8]) -> Result<(), Refusal>
+    ensures { Audits y r image.now (answer_number result) }
 {
-    let refusal = checks::pool_refusal(y, r, image.len());
-    if refusal != 0 {
-        return refusal;
-    }
-    let waiting = r.waiting;
+    checks::check_pool(y, r, image.len())?;
     let fresh = tally::missing_units(y, r);
-    if waiting == fresh { 0 } else { 14 }
+    if r.waiting == fresh {
+        Ok(())
+    } else {
+        Err(Refusal::BadEvent)
+    }
 }

@@ -1,11 +1,15 @@
 // The public call that marks a target as failed.
 #![tactic(auto)]
 
+ghost use Rattle.std.specs.Result.{result_unwrap_or};
+ghost use Rattle.lists.specs.Numbered.{answer_number};
 ghost use Rattle.pool.specs.Calls.{Fails};
 
 use homes::Record;
+use lists::Refusal;
 use numbers::Layout;
 
+// What C is handed: the refusal's number, 0 where there is none, and the record, as it was where refused.
 #[repr(C)]
 #[derive(Clone, Copy)]
 pub struct Failed {
@@ -14,30 +18,23 @@ pub struct Failed {
 }
 
 // The record with one entry more, and the count raised by the contents whose home was on the
-// target; or as it was where refused. The image is lent for its length.
-pub fn fail(y: Layout, r: Record, image: &[u8], target: u64) -> Failed
-    ensures { Fails y r image.now target result.refusal result.rec }
+// target. The image is lent for its length.
+pub fn fail(y: Layout, r: Record, image: &[u8], target: u64) -> Result<Record, Refusal>
+    ensures { Fails y r image.now target (answer_number result) (result_unwrap_or result r) }
 {
-    let refusal = checks::fail_refusal(y, r, image.len(), target);
-    if refusal != 0 {
-        return Failed { refusal, rec: r };
-    }
+    checks::check_failing(y, r, image.len(), target)?;
     let s = numbers::shape_of(y);
     let contents = numbers::all_contents(y, s.c * y.t);
     let waiting = r.waiting + tally::on_target(y, s, r, target);
     if contents < waiting {
-        return Failed { refusal: 3, rec: r };
+        return Err(Refusal::Record);
     }
     let mut failed = r.failed;
-    let k = r.k;
-    let q = r.q;
-    let at = k as usize;
-    failed[at] = target;
-    let rec = Record {
+    failed[r.k as usize] = target;
+    Ok(Record {
         failed,
-        k: k + 1,
-        q,
+        k: r.k + 1,
+        q: r.q,
         waiting,
-    };
-    Failed { refusal: 0, rec }
+    })
 }

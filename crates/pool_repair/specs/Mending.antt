@@ -34,8 +34,8 @@ abbrev pub mended_at : Layout → Record → List ℕ → ℕ → ℕ → ℕ �
 mended_at y R img g c o = content_byte y R img g o c
 
 -- those of group g are stored
-abbrev pub Mended : Layout → Record → ℕ → List ℕ → List ℕ → Type 0
-Mended y R g img img' = Lays (contents y) y.u (start_of y R R.k g) (mends_at y R g) (mended_at y R img g) img img'
+abbrev pub GroupMended : Layout → Record → ℕ → List ℕ → List ℕ → Type 0
+GroupMended y R g img img' = Lays (contents y) y.u (start_of y R R.k g) (mends_at y R g) (mended_at y R img g) img img'
 
 -- byte x once the groups below g are repaired
 module _ (y : Layout) (v : Valid y) (R : Record) (good : Good y R) where

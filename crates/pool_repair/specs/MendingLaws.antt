@@ -30,7 +30,7 @@ use Rattle.pool.specs.Contents.{stored}
 use Rattle.pool.specs.Refusals.{repair_refusal}
 use Rattle.pool.specs.Repairing.{mended, mended_image, repair_image, repair_record, repair_count}
 use Rattle.pool.specs.Storing.{storing, cell_after}
-use Rattle.pool_repair.specs.Mending.{Mended, mends_at, mended_at, MendedBelow}
+use Rattle.pool_repair.specs.Mending.{GroupMended, mends_at, mended_at, MendedBelow}
 
 -- ---- one group
 
@@ -91,7 +91,7 @@ module _ (y : Layout) (v : Valid y) (R : Record) (good : Good y R) (g : ℕ) (hg
   pub group_fits : (size : ℕ) → size ≡ image_length y → Fits P size × MendFits P starts size
   group_fits size e = (fits_at (fits y v R good R.q (omega (arith, good.mended, good.few)) g hg P s) e, mend_at new_fits e)
 
-  pub mended_group : (img img' : List ℕ) → length img ≡ image_length y → img' ≡ group_mended P starts img → Mended y R g img img'
+  pub mended_group : (img img' : List ℕ) → length img ≡ image_length y → img' ≡ group_mended P starts img → GroupMended y R g img img'
   mended_group img img' len e =
       let l = mend_lays P starts img img' (mend_at new_fits len) e in
       record {
@@ -113,7 +113,7 @@ module _ (y : Layout) (v : Valid y) (R : Record) (good : Good y R) (g : ℕ) (P 
   gone-here = s.right.gone_is ∙ (λ i. count (miss_of P) (s.n_is i + s.k_is i)) ∙ count_same (miss_of P) (missing y R g) (contents y) s.flags_are
 
   -- where none is, the group is as it should be
-  pub nothing_to_mend : P.gone ≡ 0 → (img : List ℕ) → Mended y R g img img
+  pub nothing_to_mend : P.gone ≡ 0 → (img : List ℕ) → GroupMended y R g img img
   nothing_to_mend e img =
       lays_none (contents y) y.u (start_of y R R.k g) (mends_at y R g) (mended_at y R img g) img
       (λ c o hc ho t. clash (missing y R g c) t (count-zero (missing y R g) (contents y) (sym gone-here ∙ e) c hc))
@@ -155,7 +155,7 @@ module _ (y : Layout) (R : Record) (img₀ : List ℕ) (g n : ℕ) (img : List �
   abbrev good : Good y R
   good = b.sound.good
 
-  pub mend_turn : (gone : ℕ) (img' : List ℕ) → g < all_groups y → gone ≡ count (missing y R g) (contents y) → Mended y R g img img'
+  pub mend_turn : (gone : ℕ) (img' : List ℕ) → g < all_groups y → gone ≡ count (missing y R g) (contents y) → GroupMended y R g img img'
       → MendedBelow y R img₀ (g + 1) (n + gone) img'
   mend_turn gone img' hg e m =
       record {

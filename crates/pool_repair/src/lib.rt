@@ -3,17 +3,28 @@
 #![tactic(auto)]
 
 ghost use Rattle.std.specs.Prelude.{◌≡◌, length};
+ghost use Rattle.lists.specs.Numbered.{answer_number};
 ghost use Rattle.numbers.specs.Layouts.{all_groups, image_length};
 ghost use Rattle.pool.specs.Asked.{Sound};
 ghost use Rattle.pool.specs.Calls.{Repairs};
 ghost use Rattle.pool.specs.Repairing.{mended_image};
 ghost use Rattle.pool.specs.Counting.{missing_pairs};
-ghost use Rattle.pool_repair.specs.Mending.{InHand, Mended};
+ghost use Rattle.pool_repair.specs.Mending.{InHand, GroupMended};
+ghost use Rattle.pool_repair.specs.Stored.{count_of, rec_of};
 
 use homes::Record;
+use lists::Refusal;
 use numbers::{Layout, Shape};
 use survey::Survey;
 
+// How many missing contents were stored, and the record after that.
+#[derive(Clone, Copy)]
+pub struct Mended {
+    pub count: u64,
+    pub rec: Record,
+}
+
+// What C is handed: the refusal's number, 0 where there is none, with no content stored and the record as it was where refused.
 #[repr(C)]
 #[derive(Clone, Copy)]
 pub struct Repaired {
@@ -25,15 +36,13 @@ pub struct Repaired {
 // Stores the missing contents of group g, which the survey is at, at their homes under the whole list.
 fn mend_group(w: Survey, y: Layout, s: Shape, r: Record, g: u64, image: &mut [u8])
     requires { InHand y s r g w × (length image.old ≡ image_length y) }
-    ensures { Mended y r g image.old image.new }
+    ensures { GroupMended y r g image.old image.new }
 {
     let plan = w.plan;
     if plan.gone == 0 {
         return;
     }
-    let tile = g / s.c;
-    let in_hand = w.to;
-    let to = survey::tile_to(y, w.tile, in_hand, tile);
+    let to = survey::tile_to(y, w.tile, w.to, g / s.c);
     let starts = survey::new_starts(y, s, r, &to, g);
     groups::repair_group(plan, starts, image);
 }
@@ -51,36 +60,23 @@ fn mend_groups(y: Layout, r: Record, image: &mut [u8]) -> u64
     for g in 0..groups {
         survey = survey::next(survey, y, s, r, g);
         mend_group(survey, y, s, r, g, image);
-        let plan = survey.plan;
-        count += plan.gone as u64;
+        count += survey.plan.gone as u64;
     }
     count
 }
 
-// Repairs everything that is missing. A refused call changes no byte and hands the record back as it was.
-pub fn repair(y: Layout, r: Record, image: &mut [u8]) -> Repaired
-    ensures { Repairs y r image.old result.refusal result.count result.rec image.new }
+// Repairs everything that is missing. A refused call changes no byte.
+pub fn repair(y: Layout, r: Record, image: &mut [u8]) -> Result<Mended, Refusal>
+    ensures { Repairs y r image.old (answer_number result) (count_of result) (rec_of result r) image.new }
 {
-    let refusal = checks::pool_refusal(y, r, image.len());
-    if refusal != 0 {
-        return Repaired {
-            refusal,
-            count: 0,
-            rec: r,
-        };
-    }
+    checks::check_pool(y, r, image.len())?;
     let count = mend_groups(y, r, image);
     let failed = r.failed;
-    let k = r.k;
     let rec = Record {
         failed,
-        k,
-        q: k,
+        k: r.k,
+        q: r.k,
         waiting: 0,
     };
-    Repaired {
-        refusal: 0,
-        count,
-        rec,
-    }
+    Ok(Mended { count, rec })
 }
