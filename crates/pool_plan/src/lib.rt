@@ -3,14 +3,19 @@
 #![tactic(auto)]
 
 ghost use Rattle.std.specs.Prelude.{◌≡◌};
+ghost use Rattle.std.specs.Result.{result_unwrap_or};
+ghost use Rattle.lists.specs.Numbered.{answer_number};
+ghost use Rattle.pool_repair.specs.Stored.{count_of, rec_of};
 ghost use Rattle.proposal.specs.Running.{plan_refusal};
 ghost use Rattle.proposal.specs.Calls.{RepairsBy, ChecksPlan, Draws};
 
 use homes::Record;
+use lists::Refusal;
 use numbers::Layout;
-use pool_repair::Repaired;
+use pool_repair::Mended;
 
-// How many numbers of the buffer the plan takes, from the first on; 0 where refused.
+// What C is handed of a drawn plan: the refusal's number, 0 where there is none, and how many numbers of the buffer the plan takes, from the first on; 0
+// where refused.
 #[repr(C)]
 #[derive(Clone, Copy)]
 pub struct Drawn {
@@ -18,77 +23,52 @@ pub struct Drawn {
     pub length: u64,
 }
 
-// What every call of the pool tests, of an image of `len` bytes, and then 15 where the plan is not accepted.
-fn plan_refusal(y: Layout, r: Record, len: usize, plan: &[u64]) -> u64
-    ensures { result ≡ plan_refusal y r len plan.now }
+// What every call of the pool tests, of an image of `len` bytes, and then that the plan is accepted.
+fn check_accepted(y: Layout, r: Record, len: usize, plan: &[u64]) -> Result<(), Refusal>
+    ensures { answer_number result ≡ plan_refusal y r len plan.now }
 {
-    let refusal = checks::pool_refusal(y, r, len);
-    if refusal != 0 {
-        return refusal;
+    checks::check_pool(y, r, len)?;
+    if !proposal_check::plan_good(y, r, plan) {
+        return Err(Refusal::BadPlan);
     }
-    if proposal_check::plan_good(y, r, plan) {
-        0
-    } else {
-        15
-    }
+    Ok(())
 }
 
 // The checker by itself: what `repair_by` would answer. The image is lent for its length.
-pub fn check_plan(y: Layout, r: Record, image: &[u8], plan: &[u64]) -> u64
-    ensures { ChecksPlan y r image.now plan.now result }
+pub fn check_plan(y: Layout, r: Record, image: &[u8], plan: &[u64]) -> Result<(), Refusal>
+    ensures { ChecksPlan y r image.now plan.now (answer_number result) }
 {
-    plan_refusal(y, r, image.len(), plan)
+    check_accepted(y, r, image.len(), plan)
 }
 
-// Repairs everything that is missing, each content from the sources that its entry names and in the plan's order. A refused call changes no byte and
-// hands the record back as it was.
-pub fn repair_by(y: Layout, r: Record, image: &mut [u8], plan: &[u64]) -> Repaired
-    ensures { RepairsBy y r image.old plan.now result.refusal result.count result.rec image.new }
+// Repairs everything that is missing, each content from the sources that its entry names and in the plan's order. A refused call changes no byte.
+pub fn repair_by(y: Layout, r: Record, image: &mut [u8], plan: &[u64]) -> Result<Mended, Refusal>
+    ensures { RepairsBy y r image.old plan.now (answer_number result) (count_of result) (rec_of result r) image.new }
 {
-    let refusal = plan_refusal(y, r, image.len(), plan);
-    if refusal != 0 {
-        return Repaired {
-            refusal,
-            count: 0,
-            rec: r,
-        };
-    }
+    check_accepted(y, r, image.len(), plan)?;
     proposal_run::run_entries(y, r, plan, image);
     let count = plan.len() as u64 / (y.n + 2);
     let failed = r.failed;
-    let k = r.k;
     let rec = Record {
         failed,
-        k,
-        q: k,
+        k: r.k,
+        q: r.k,
         waiting: 0,
     };
-    Repaired {
-        refusal: 0,
-        count,
-        rec,
-    }
+    Ok(Mended { count, rec })
 }
 
-// Draws the plan up in the buffer, of which the numbers behind it stay as they are. A refused call changes no number. The image is lent for its length.
-pub fn draw_plan(y: Layout, r: Record, image: &[u8], plan: &mut [u64]) -> Drawn
-    ensures { Draws y r image.now plan.old result.refusal result.length plan.new }
+// Draws the plan up in the buffer, of which the numbers behind it stay as they are; how many numbers it takes. A refused call changes no number. The
+// image is lent for its length.
+pub fn draw_plan(y: Layout, r: Record, image: &[u8], plan: &mut [u64]) -> Result<u64, Refusal>
+    ensures { Draws y r image.now plan.old (answer_number result) (result_unwrap_or result 0) plan.new }
 {
-    let refusal = checks::pool_refusal(y, r, image.len());
-    if refusal != 0 {
-        return Drawn { refusal, length: 0 };
-    }
+    checks::check_pool(y, r, image.len())?;
     let waiting = tally::missing_units(y, r);
     let needed = (y.n + 2) * waiting;
     if (plan.len() as u64) < needed {
-        return Drawn {
-            refusal: 5,
-            length: 0,
-        };
+        return Err(Refusal::BufferLength);
     }
     proposal_draw::draw(y, r, plan, needed as usize);
-    Drawn {
-        refusal: 0,
-        length: needed,
-    }
+    Ok(needed)
 }

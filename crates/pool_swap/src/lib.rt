@@ -3,13 +3,17 @@
 #![tactic(auto)]
 
 ghost use Rattle.std.specs.Prelude.{◌≡◌, length};
+ghost use Rattle.std.specs.Result.{result_unwrap_or};
+ghost use Rattle.lists.specs.Numbered.{answer_number};
 ghost use Rattle.homes.specs.Dropping.{without};
 ghost use Rattle.swapping.specs.Swapping.{swap_refusal, swapped_image, Swaps};
 ghost use Rattle.swapping.specs.SwapLaws.{SwapAsked};
 
 use homes::Record;
+use lists::Refusal;
 use numbers::Layout;
 
+// What C is handed: the refusal's number, 0 where there is none, and the record, as it was where refused.
 #[repr(C)]
 #[derive(Clone, Copy)]
 pub struct Swapped {
@@ -17,28 +21,21 @@ pub struct Swapped {
     pub rec: Record,
 }
 
-fn swap_refusal(y: Layout, r: Record, len: usize, target: u64) -> u64
-    ensures { result ≡ swap_refusal y r len target }
+// What every call tests first, then the target: it is one, it is in the list, and all that failed are repaired.
+fn check_swap(y: Layout, r: Record, len: usize, target: u64) -> Result<(), Refusal>
+    ensures { answer_number result ≡ swap_refusal y r len target }
 {
-    let refusal = checks::pool_refusal(y, r, len);
-    if refusal != 0 {
-        return refusal;
+    checks::check_pool(y, r, len)?;
+    if y.p <= target {
+        return Err(Refusal::Outside);
     }
-    let targets = y.p;
-    let failed = r.failed;
-    let k = r.k;
-    let q = r.q;
-    if targets <= target {
-        return 4;
+    if !homes::is_listed(r.failed, r.k as usize, target) {
+        return Err(Refusal::NotThere);
     }
-    let listed = homes::is_listed(failed, k as usize, target);
-    if !listed {
-        return 11;
+    if r.q != r.k {
+        return Err(Refusal::NotRepaired);
     }
-    if q != k {
-        return 16;
-    }
-    0
+    Ok(())
 }
 
 // One group after another: the permutation is worked out where the tile changes, homes under both lists once a group, and no plan.
@@ -60,21 +57,15 @@ fn swap_groups(y: Layout, r: Record, target: u64, image: &mut [u8]) -> Record
         to = survey::tile_to(y, tile, to, here);
         tile = here;
         let shift = survey::shift_of(y, s, r, less, &to, g);
-        let old = shift.from;
-        let new = shift.to;
-        group_swap::move_units(old, new, m, u, image, &mut scratch);
+        group_swap::move_units(shift.from, shift.to, m, u, image, &mut scratch);
     }
     less
 }
 
-// Takes the target back. A refused call changes no byte and hands the record back as it was.
-pub fn swap(y: Layout, r: Record, image: &mut [u8], target: u64) -> Swapped
-    ensures { Swaps y r image.old target result.refusal result.rec image.new }
+// Takes the target back; the record without it. A refused call changes no byte.
+pub fn swap(y: Layout, r: Record, image: &mut [u8], target: u64) -> Result<Record, Refusal>
+    ensures { Swaps y r image.old target (answer_number result) (result_unwrap_or result r) image.new }
 {
-    let refusal = swap_refusal(y, r, image.len(), target);
-    if refusal != 0 {
-        return Swapped { refusal, rec: r };
-    }
-    let rec = swap_groups(y, r, target, image);
-    Swapped { refusal: 0, rec }
+    check_swap(y, r, image.len(), target)?;
+    Ok(swap_groups(y, r, target, image))
 }

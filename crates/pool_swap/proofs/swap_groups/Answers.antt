@@ -22,21 +22,35 @@ pub loop-g-init : goal.loop-g-init
 loop-g-init c = (omega arith, refl, refl, c.permutation-to.ensures, swapped_begin _ _ _ _ c.requires)
 
 pub shift_of-shift-requires : goal.shift_of-shift-requires
-shift_of-shift-requires c = let a = c.requires in (
-  a.sound.good,
-  subst⁻¹ (Good _) c.without-less.ensures (less_good _ _ _ a),
-  record { valid = a.sound.valid; shape = c.shape_of-s.ensures; tile = c.tile_to-to.ensures; group = (turn _ _ _ c.loop-g-test.true c.numbers_of-numbers.ensures.groups_is c.numbers_of-numbers.ensures.groups-few).0 },
-)
+shift_of-shift-requires c =
+    let few = turn _ _ _ c.loop-g-test.true c.numbers_of-numbers.ensures.groups_is c.numbers_of-numbers.ensures.groups-few in
+    let a = c.requires in (
+      a.sound.good,
+      subst⁻¹ (Good _) c.without-less.ensures (less_good _ _ _ a),
+      record { valid = a.sound.valid; shape = c.shape_of-s.ensures; tile = c.tile_to-to.ensures; group = few.0 },
+    )
 
 pub move_units-requires : goal.move_units-requires
-move_units-requires c = let l = c.loop-g in
-    (group_movable _ _ _ c.args.image.now c.requires _ (turn _ _ _ c.loop-g-test.true c.numbers_of-numbers.ensures.groups_is c.numbers_of-numbers.ensures.groups-few).0 c.shift_of-shift.result _ c.without-less.ensures c.shift_of-shift.ensures (length l.image) l.invariant.1, l.invariant.2)
+move_units-requires c =
+    let few = turn _ _ _ c.loop-g-test.true c.numbers_of-numbers.ensures.groups_is c.numbers_of-numbers.ensures.groups-few in
+    let l = c.loop-g in (
+      group_movable _ _ _ c.args.image.now c.requires _ few.0
+          c.shift_of-shift.result _ c.without-less.ensures c.shift_of-shift.ensures (length l.image) l.invariant.1,
+      l.invariant.2,
+    )
 
 pub loop-g-preserved : goal.loop-g-preserved
-loop-g-preserved c = let a = c.requires in
+loop-g-preserved c =
+    let few = turn _ _ _ c.loop-g-test.true c.numbers_of-numbers.ensures.groups_is c.numbers_of-numbers.ensures.groups-few in
+    let a = c.requires in
     let l = c.loop-g in
-    let e = swapped_turn _ _ _ _ a _ (turn _ _ _ c.loop-g-test.true c.numbers_of-numbers.ensures.groups_is c.numbers_of-numbers.ensures.groups-few).0 c.shift_of-shift.result _ c.without-less.ensures c.shift_of-shift.ensures l.image _ l.invariant.4 c.move_units.ensures in
-    (omega (arith, turn _ _ _ c.loop-g-test.true c.numbers_of-numbers.ensures.groups_is c.numbers_of-numbers.ensures.groups-few), ap length e ∙ swapped_length _ _ _ _ a _, search rules, c.tile_to-to.ensures, e)
+    let e = swapped_turn _ _ _ _ a _ few.0
+    c.shift_of-shift.result _ c.without-less.ensures c.shift_of-shift.ensures l.image _ l.invariant.4 c.move_units.ensures in
+    (omega (arith, few), ap length e ∙ swapped_length _ _ _ _ a _, search rules, c.tile_to-to.ensures, e)
 
 pub returns : goal.returns
-returns c = (c.without-less.ensures, swapped_end _ _ _ _ c.requires _ _ c.loop-g.invariant.4 (omega (arith, c.loop-g.invariant.0, c.loop-g-test.false, c.numbers_of-numbers.ensures.groups_is)))
+returns c = (
+  c.without-less.ensures,
+  swapped_end _ _ _ _ c.requires _ _ c.loop-g.invariant.4
+      (omega (arith, c.loop-g.invariant.0, c.loop-g-test.false, c.numbers_of-numbers.ensures.groups_is)),
+)
