@@ -1,260 +1,141 @@
 // The public calls on a layout: its numbers, a tile's permutation, places, file offsets, image bytes,
-// and the walk over one target. Each takes any numbers, tests everything itself, and answers a
-// refusal number.
+// and the walk over one target. Each takes any numbers, tests everything itself, and is refused with
+// the lowest number that applies.
 #![tactic(auto)]
 
 ghost use Rattle.std.specs.Prelude.{◌≡◌, ◌<◌};
+ghost use Rattle.lists.specs.Numbered.{answer_number};
 ghost use Rattle.numbers.specs.Layouts.{Valid, all_groups};
 ghost use Rattle.place.specs.Bytes.{offset_of};
-ghost use Rattle.layout.specs.Measure.{no_numbers, measured_of};
+ghost use Rattle.layout.specs.Measure.{measured_of};
 ghost use Rattle.layout.specs.Tiles.{tile_refusal, permuted_of, inverted_of};
 ghost use Rattle.layout.specs.Places.{place_refusal, placed_of, unit_refusal, held_of};
 ghost use Rattle.layout.specs.Offsets.{offset_refusal, mapped_of, byte_refusal, traced_of};
 ghost use Rattle.layout.specs.Walk.{walk_refusal, step_of};
+ghost use Rattle.layout.specs.ForC.{measured_by, entries_by, placed_by, held_by, mapped_by, traced_by};
 
+use lists::Refusal;
 use numbers::{Layout, Numbers};
-use place::Unit;
+use place::{Place, Unit};
 
 // ---- the numbers
 
-#[repr(C)]
-#[derive(Clone, Copy)]
-pub struct Measured {
-    pub refusal: u64,
-    pub numbers: Numbers,
-}
-
-fn no_numbers() -> Numbers
-    ensures { result ≡ no_numbers }
+pub fn measure(y: Layout) -> Result<Numbers, Refusal>
+    ensures { measured_by result ≡ measured_of y }
 {
-    Numbers {
-        w: 0,
-        b: 0,
-        l: 0,
-        c: 0,
-        frames: 0,
-        groups: 0,
-        capacity: 0,
-        image: 0,
-    }
-}
-
-pub fn measure(y: Layout) -> Measured
-    ensures { result ≡ measured_of y }
-{
-    let refusal = numbers::refusal(y);
-    if refusal != 0 {
-        return Measured {
-            refusal,
-            numbers: no_numbers(),
-        };
-    }
-    Measured {
-        refusal: 0,
-        numbers: numbers::numbers_of(y),
-    }
+    numbers::check(y)?;
+    Ok(numbers::numbers_of(y))
 }
 
 // ---- the permutation of a tile
 
-#[repr(C)]
-#[derive(Clone, Copy)]
-pub struct Entries {
-    pub refusal: u64,
-    pub entries: [u8; 64],
-}
-
-fn tile_refusal(y: Layout, tile: u64) -> u64
-    ensures { result ≡ tile_refusal y tile }
+fn check_tile(y: Layout, tile: u64) -> Result<(), Refusal>
+    ensures { answer_number result ≡ tile_refusal y tile }
 {
-    let refusal = numbers::refusal(y);
-    if refusal != 0 {
-        return refusal;
+    numbers::check(y)?;
+    if y.t <= tile {
+        return Err(Refusal::Outside);
     }
-    let tiles = y.t;
-    if tiles <= tile {
-        return 4;
-    }
-    0
+    Ok(())
 }
 
 // Entry t is the target of column t.
-pub fn tile_permutation(y: Layout, tile: u64) -> Entries
-    ensures { result ≡ permuted_of y tile }
+pub fn tile_permutation(y: Layout, tile: u64) -> Result<[u8; 64], Refusal>
+    ensures { entries_by result ≡ permuted_of y tile }
 {
-    let refusal = tile_refusal(y, tile);
-    if refusal != 0 {
-        return Entries {
-            refusal,
-            entries: [0u8; 64],
-        };
-    }
-    Entries {
-        refusal: 0,
-        entries: place::permutation(y, tile),
-    }
+    check_tile(y, tile)?;
+    Ok(place::permutation(y, tile))
 }
 
 // Entry t is the column of target t.
-pub fn tile_inverse(y: Layout, tile: u64) -> Entries
-    ensures { result ≡ inverted_of y tile }
+pub fn tile_inverse(y: Layout, tile: u64) -> Result<[u8; 64], Refusal>
+    ensures { entries_by result ≡ inverted_of y tile }
 {
-    let refusal = tile_refusal(y, tile);
-    if refusal != 0 {
-        return Entries {
-            refusal,
-            entries: [0u8; 64],
-        };
-    }
-    Entries {
-        refusal: 0,
-        entries: place::inverse(y, tile),
-    }
+    check_tile(y, tile)?;
+    Ok(place::inverse(y, tile))
 }
 
 // ---- places
 
 // A unit's place, and the image byte at which the unit begins.
-#[repr(C)]
 #[derive(Clone, Copy)]
-pub struct Placed {
-    pub refusal: u64,
-    pub frame: u64,
-    pub target: u64,
+pub struct UnitPlace {
+    pub place: Place,
     pub begins: u64,
 }
 
-fn place_refusal(y: Layout, group: u64, unit: u64) -> u64
-    ensures { result ≡ place_refusal y group unit }
+fn check_place(y: Layout, group: u64, unit: u64) -> Result<(), Refusal>
+    ensures { answer_number result ≡ place_refusal y group unit }
 {
-    let refusal = numbers::refusal(y);
-    if refusal != 0 {
-        return refusal;
-    }
+    numbers::check(y)?;
     let numbers = numbers::numbers_of(y);
-    let groups = numbers.groups;
-    let width = numbers.w;
-    if groups <= group {
-        return 4;
+    if numbers.groups <= group {
+        return Err(Refusal::Outside);
     }
-    if width <= unit {
-        return 4;
+    if numbers.w <= unit {
+        return Err(Refusal::Outside);
     }
-    0
+    Ok(())
 }
 
-pub fn find_place(y: Layout, group: u64, unit: u64) -> Placed
-    ensures { result ≡ placed_of y group unit }
+pub fn find_place(y: Layout, group: u64, unit: u64) -> Result<UnitPlace, Refusal>
+    ensures { placed_by result ≡ placed_of y group unit }
 {
-    let refusal = place_refusal(y, group, unit);
-    if refusal != 0 {
-        return Placed {
-            refusal,
-            frame: 0,
-            target: 0,
-            begins: 0,
-        };
-    }
+    check_place(y, group, unit)?;
     let s = numbers::shape_of(y);
-    let at = place::place_of(y, s, group, unit);
-    let begins = place::spot_of(y, s, at, 0);
-    Placed {
-        refusal: 0,
-        frame: at.frame,
-        target: at.target,
-        begins,
+    let place = place::place_of(y, s, group, unit);
+    let begins = place::spot_of(y, s, place, 0);
+    Ok(UnitPlace { place, begins })
+}
+
+fn check_unit(y: Layout, frame: u64, target: u64) -> Result<(), Refusal>
+    ensures { answer_number result ≡ unit_refusal y frame target }
+{
+    numbers::check(y)?;
+    let numbers = numbers::numbers_of(y);
+    if numbers.frames <= frame {
+        return Err(Refusal::Outside);
     }
+    if y.p <= target {
+        return Err(Refusal::Outside);
+    }
+    Ok(())
 }
 
 // The unit that lies at a place.
-#[repr(C)]
-#[derive(Clone, Copy)]
-pub struct Held {
-    pub refusal: u64,
-    pub group: u64,
-    pub unit: u64,
-}
-
-fn unit_refusal(y: Layout, frame: u64, target: u64) -> u64
-    ensures { result ≡ unit_refusal y frame target }
+pub fn find_unit(y: Layout, frame: u64, target: u64) -> Result<Unit, Refusal>
+    ensures { held_by result ≡ held_of y frame target }
 {
-    let refusal = numbers::refusal(y);
-    if refusal != 0 {
-        return refusal;
-    }
-    let numbers = numbers::numbers_of(y);
-    let frames = numbers.frames;
-    let targets = y.p;
-    if frames <= frame {
-        return 4;
-    }
-    if targets <= target {
-        return 4;
-    }
-    0
-}
-
-pub fn find_unit(y: Layout, frame: u64, target: u64) -> Held
-    ensures { result ≡ held_of y frame target }
-{
-    let refusal = unit_refusal(y, frame, target);
-    if refusal != 0 {
-        return Held {
-            refusal,
-            group: 0,
-            unit: 0,
-        };
-    }
+    check_unit(y, frame, target)?;
     let s = numbers::shape_of(y);
-    let held = place::unit_of(y, s, frame, target);
-    Held {
-        refusal: 0,
-        group: held.group,
-        unit: held.unit,
-    }
+    Ok(place::unit_of(y, s, frame, target))
 }
 
 // ---- file offsets
 
-// A file offset's group, unit and byte in the unit, and its image byte while nothing has failed.
-#[repr(C)]
+// A file offset's unit and byte in the unit, and its image byte while nothing has failed.
 #[derive(Clone, Copy)]
-pub struct Mapped {
-    pub refusal: u64,
-    pub group: u64,
-    pub unit: u64,
+pub struct OffsetSpot {
+    pub held: Unit,
     pub byte: u64,
     pub image: u64,
 }
 
-fn offset_refusal(y: Layout, offset: u64) -> u64
-    ensures { result ≡ offset_refusal y offset }
+fn check_offset(y: Layout, offset: u64) -> Result<(), Refusal>
+    ensures { answer_number result ≡ offset_refusal y offset }
 {
-    let refusal = numbers::refusal(y);
-    if refusal != 0 {
-        return refusal;
-    }
+    numbers::check(y)?;
     let numbers = numbers::numbers_of(y);
-    let capacity = numbers.capacity;
-    if capacity <= offset {
-        return 4;
+    if numbers.capacity <= offset {
+        return Err(Refusal::Outside);
     }
-    0
+    Ok(())
 }
 
-pub fn map_offset(y: Layout, offset: u64) -> Mapped
-    ensures { result ≡ mapped_of y offset }
+pub fn map_offset(y: Layout, offset: u64) -> Result<OffsetSpot, Refusal>
+    ensures { mapped_by result ≡ mapped_of y offset }
 {
-    let refusal = offset_refusal(y, offset);
-    if refusal != 0 {
-        return Mapped {
-            refusal,
-            group: 0,
-            unit: 0,
-            byte: 0,
-            image: 0,
-        };
-    }
+    check_offset(y, offset)?;
     let s = numbers::shape_of(y);
     let n = y.n;
     let u = y.u;
@@ -264,43 +145,29 @@ pub fn map_offset(y: Layout, offset: u64) -> Mapped
     let byte = offset % data % u;
     let at = place::place_of(y, s, group, unit);
     let image = place::spot_of(y, s, at, byte);
-    Mapped {
-        refusal: 0,
-        group,
-        unit,
-        byte,
-        image,
-    }
+    let held = Unit { group, unit };
+    Ok(OffsetSpot { held, byte, image })
 }
 
 // ---- image bytes
 
-// An image byte's group, unit and byte in the unit; whether the unit is a data unit, and the byte's
-// file offset then, while nothing has failed.
-#[repr(C)]
+// An image byte's unit and byte in the unit, and its file offset where the unit is a data unit, while nothing has failed.
 #[derive(Clone, Copy)]
-pub struct Traced {
-    pub refusal: u64,
-    pub group: u64,
-    pub unit: u64,
+pub struct ImageSpot {
+    pub held: Unit,
     pub byte: u64,
-    pub is_data: bool,
-    pub offset: u64,
+    pub offset: Option<u64>,
 }
 
-fn byte_refusal(y: Layout, x: u64) -> u64
-    ensures { result ≡ byte_refusal y x }
+fn check_byte(y: Layout, x: u64) -> Result<(), Refusal>
+    ensures { answer_number result ≡ byte_refusal y x }
 {
-    let refusal = numbers::refusal(y);
-    if refusal != 0 {
-        return refusal;
-    }
+    numbers::check(y)?;
     let numbers = numbers::numbers_of(y);
-    let image = numbers.image;
-    if image <= x {
-        return 4;
+    if numbers.image <= x {
+        return Err(Refusal::Outside);
     }
-    0
+    Ok(())
 }
 
 // The file offset of a byte of a data unit.
@@ -316,20 +183,10 @@ fn offset_of(y: Layout, held: Unit, byte: u64) -> u64
 }
 
 // The way back from the image: `map_offset` of a data byte's answered offset answers the byte again.
-pub fn map_byte(y: Layout, x: u64) -> Traced
-    ensures { result ≡ traced_of y x }
+pub fn map_byte(y: Layout, x: u64) -> Result<ImageSpot, Refusal>
+    ensures { traced_by result ≡ traced_of y x }
 {
-    let refusal = byte_refusal(y, x);
-    if refusal != 0 {
-        return Traced {
-            refusal,
-            group: 0,
-            unit: 0,
-            byte: 0,
-            is_data: false,
-            offset: 0,
-        };
-    }
+    check_byte(y, x)?;
     let s = numbers::shape_of(y);
     let l = s.l;
     let t = y.t;
@@ -339,19 +196,15 @@ pub fn map_byte(y: Layout, x: u64) -> Traced
     let frame = x % drive / u;
     let byte = x % drive % u;
     let held = place::unit_of(y, s, frame, target);
-    let group = held.group;
     let unit = held.unit;
     let data = y.n;
     let is_data = unit < data;
-    let offset = if is_data { offset_of(y, held, byte) } else { 0 };
-    Traced {
-        refusal: 0,
-        group,
-        unit,
-        byte,
-        is_data,
-        offset,
-    }
+    let offset = if is_data {
+        Some(offset_of(y, held, byte))
+    } else {
+        None
+    };
+    Ok(ImageSpot { held, byte, offset })
 }
 
 // ---- the walk over one target
@@ -371,34 +224,27 @@ pub enum Step {
     Refused(u64, Cursor),
 }
 
-fn walk_refusal(y: Layout, at: Cursor) -> u64
-    ensures { result ≡ walk_refusal y at }
+fn check_walk(y: Layout, at: Cursor) -> Result<(), Refusal>
+    ensures { answer_number result ≡ walk_refusal y at }
 {
-    let refusal = numbers::refusal(y);
-    if refusal != 0 {
-        return refusal;
-    }
+    numbers::check(y)?;
     let numbers = numbers::numbers_of(y);
-    let frames = numbers.frames;
-    let targets = y.p;
-    let target = at.target;
-    let frame = at.frame;
-    if targets <= target {
-        return 4;
+    if y.p <= at.target {
+        return Err(Refusal::Outside);
     }
-    if frames < frame {
-        return 4;
+    if numbers.frames < at.frame {
+        return Err(Refusal::Outside);
     }
-    0
+    Ok(())
 }
 
 impl Cursor {
     pub fn step(self, y: Layout) -> Step
         ensures { result ≡ step_of y self }
     {
-        let refusal = walk_refusal(y, self);
-        if refusal != 0 {
-            return Step::Refused(refusal, self);
+        match check_walk(y, self) {
+            Ok(()) => {}
+            Err(refusal) => return Step::Refused(refusal.into(), self),
         }
         let numbers = numbers::numbers_of(y);
         let frames = numbers.frames;
@@ -417,5 +263,181 @@ impl Cursor {
                 frame: next,
             },
         )
+    }
+}
+
+// ---- the answers as C has them: one struct, with the refusal's number, and zeros where refused
+
+#[repr(C)]
+#[derive(Clone, Copy)]
+pub struct Measured {
+    pub refusal: u64,
+    pub numbers: Numbers,
+}
+
+impl From<Result<Numbers, Refusal>> for Measured {
+    ghost from_gives = { λ answer made. made ≡ measured_by answer };
+
+    fn from(answer: Result<Numbers, Refusal>) -> Measured {
+        match answer {
+            Ok(numbers) => Measured {
+                refusal: 0,
+                numbers,
+            },
+            Err(refusal) => Measured {
+                refusal: refusal.into(),
+                numbers: Numbers::default(),
+            },
+        }
+    }
+}
+
+#[repr(C)]
+#[derive(Clone, Copy)]
+pub struct Entries {
+    pub refusal: u64,
+    pub entries: [u8; 64],
+}
+
+impl From<Result<[u8; 64], Refusal>> for Entries {
+    ghost from_gives = { λ answer made. made ≡ entries_by answer };
+
+    fn from(answer: Result<[u8; 64], Refusal>) -> Entries {
+        match answer {
+            Ok(entries) => Entries {
+                refusal: 0,
+                entries,
+            },
+            Err(refusal) => Entries {
+                refusal: refusal.into(),
+                entries: [0; 64],
+            },
+        }
+    }
+}
+
+#[repr(C)]
+#[derive(Clone, Copy)]
+pub struct Placed {
+    pub refusal: u64,
+    pub frame: u64,
+    pub target: u64,
+    pub begins: u64,
+}
+
+impl From<Result<UnitPlace, Refusal>> for Placed {
+    ghost from_gives = { λ answer made. made ≡ placed_by answer };
+
+    fn from(answer: Result<UnitPlace, Refusal>) -> Placed {
+        match answer {
+            Ok(found) => Placed {
+                refusal: 0,
+                frame: found.place.frame,
+                target: found.place.target,
+                begins: found.begins,
+            },
+            Err(refusal) => Placed {
+                refusal: refusal.into(),
+                frame: 0,
+                target: 0,
+                begins: 0,
+            },
+        }
+    }
+}
+
+#[repr(C)]
+#[derive(Clone, Copy)]
+pub struct Held {
+    pub refusal: u64,
+    pub group: u64,
+    pub unit: u64,
+}
+
+impl From<Result<Unit, Refusal>> for Held {
+    ghost from_gives = { λ answer made. made ≡ held_by answer };
+
+    fn from(answer: Result<Unit, Refusal>) -> Held {
+        match answer {
+            Ok(held) => Held {
+                refusal: 0,
+                group: held.group,
+                unit: held.unit,
+            },
+            Err(refusal) => Held {
+                refusal: refusal.into(),
+                group: 0,
+                unit: 0,
+            },
+        }
+    }
+}
+
+#[repr(C)]
+#[derive(Clone, Copy)]
+pub struct Mapped {
+    pub refusal: u64,
+    pub group: u64,
+    pub unit: u64,
+    pub byte: u64,
+    pub image: u64,
+}
+
+impl From<Result<OffsetSpot, Refusal>> for Mapped {
+    ghost from_gives = { λ answer made. made ≡ mapped_by answer };
+
+    fn from(answer: Result<OffsetSpot, Refusal>) -> Mapped {
+        match answer {
+            Ok(found) => Mapped {
+                refusal: 0,
+                group: found.held.group,
+                unit: found.held.unit,
+                byte: found.byte,
+                image: found.image,
+            },
+            Err(refusal) => Mapped {
+                refusal: refusal.into(),
+                group: 0,
+                unit: 0,
+                byte: 0,
+                image: 0,
+            },
+        }
+    }
+}
+
+#[repr(C)]
+#[derive(Clone, Copy)]
+pub struct Traced {
+    pub refusal: u64,
+    pub group: u64,
+    pub unit: u64,
+    pub byte: u64,
+    pub is_data: bool,
+    pub offset: u64,
+}
+
+impl From<Result<ImageSpot, Refusal>> for Traced {
+    ghost from_gives = { λ answer made. made ≡ traced_by answer };
+
+    fn from(answer: Result<ImageSpot, Refusal>) -> Traced {
+        match answer {
+            Ok(found) => Traced {
+                refusal: 0,
+                group: found.held.group,
+                unit: found.held.unit,
+                byte: found.byte,
+                is_data: found.offset.is_some(),
+                offset: found.offset.unwrap_or(0),
+            },
+            Err(refusal) => Traced {
+                refusal: refusal.into(),
+                group: 0,
+                unit: 0,
+                byte: 0,
+                is_data: false,
+                offset: 0,
+            },
+        }
     }
 }

@@ -30,3 +30,8 @@ refused UnknownEdition h = omega (arith, h)
 pub handed_on : {A : Type 0} (r : Result A Refusal) (e : Refusal) {n : ℕ} → IsErrAnd r (λ y. y ≡ e) → refusal_number e ≡ n → answer_number r ≡ n
 handed_on (Ok x) e h p = absurd h
 handed_on (Err y) e h p = ap refusal_number h ∙ p
+
+-- and what is made of the answer is what is made of that refusal
+pub handed_by : {A B : Type 0} (f : Result A Refusal → B) (r : Result A Refusal) (e : Refusal) {b : B} → IsErrAnd r (λ y. y ≡ e) → f (Err e) ≡ b → f r ≡ b
+handed_by f (Ok x) e h p = absurd h
+handed_by f (Err y) e h p = ap (λ z. f (Err z)) h ∙ p

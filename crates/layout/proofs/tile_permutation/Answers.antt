@@ -1,24 +1,28 @@
 -- `layout::tile_permutation` meets its contract: refused with the tile's number and zeros, or accepted with the entries.
-use mathlib.Core.Path.{sym, ap, ◌∙◌}
+use mathlib.Core.Path.{refl, sym, ap, ◌∙◌}
 use mathlib.Core.List.{List}
 use Prim.Native.Nat.{ℕ}
+use Rattle.lists.proofs.Answering.{refused, handed_by}
 use Rattle.lists.specs.Refusal.{refused-answer, accepted_answer}
 use Rattle.lists.specs.Tabulate.{tabulate, zeros}
 use Rattle.layout.specs.declared.Entries.{Entries}
 use Rattle.layout.specs.Tiles.{permuted_of}
 use Rattle.layout.specs.Asked.{tile_asked}
+use Rattle.layout.specs.ForC.{entries_by}
 use Rattle.layout.proofs.tile_permutation.Goals as goal
 
 abbrev answer : ℕ → List ℕ → Entries
 answer n l = record { refusal = n; entries = l }
 
-pub returns-then-refusal-ne0 : goal.returns-then-refusal-ne0
+pub returns-in_err-check_tile : goal.returns-in_err-check_tile
 unfolding permuted_of tabulate
-returns-then-refusal-ne0 c = refused-answer (λ (n : ℕ). answer n (zeros 64)) _ c.tile_refusal-refusal.ensures c.if-refusal-ne0.true
+returns-in_err-check_tile c =
+    handed_by entries_by _ c.in_err-check_tile.field-0.0 c.from_residual.ensures.1
+    (refused-answer (λ (n : ℕ). answer n (zeros 64)) _ c.in_err-check_tile.ensures (refused _))
 
 pub permutation-requires : goal.permutation-requires
-permutation-requires c = (tile_asked _ _ (sym c.tile_refusal-refusal.ensures ∙ c.if-refusal-ne0.false)).0
+permutation-requires c = (tile_asked _ _ (sym c.in_ok-check_tile.ensures)).0
 
 pub returns : goal.returns
 unfolding permuted_of
-returns c = ap (answer 0) c.permutation.ensures ∙ accepted_answer _ _ c.tile_refusal-refusal.ensures c.if-refusal-ne0.false
+returns c = ap (answer 0) c.permutation.ensures ∙ accepted_answer _ _ c.in_ok-check_tile.ensures refl
