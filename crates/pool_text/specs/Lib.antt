@@ -1,6 +1,7 @@
 pub mod Text
 pub mod Reading
 pub mod TextCalls
+pub mod Unread
 pub mod Places
 pub mod Here
 pub mod RoundTrip

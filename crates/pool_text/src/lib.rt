@@ -1,26 +1,56 @@
 // A pool as text: the hex lines of all its frames in one text, written and read back. Both calls take any input, test everything themselves
-// and answer a refusal number; what a refused call was lent to fill is zeros over its whole length.
+// and answer why they are refused; what a refused call was lent to fill is zeros over its whole length.
 #![tactic(auto)]
 
-ghost use Rattle.std.specs.Prelude.{◌≡◌, ◌<◌, ◌+◌, ◌*◌, length};
+ghost use Rattle.std.specs.Prelude.{◌≡◌, ◌<◌, ◌+◌, ◌*◌, length, MatchResult};
+ghost use Rattle.lists.specs.Numbered.{answer_number};
 ghost use Rattle.numbers.specs.Layouts.{Valid, frames as framesOf, image_length};
 ghost use Rattle.pool_text.specs.Text.{line_count, text_length, pool_text};
 ghost use Rattle.pool_text.specs.TextCalls.{image_refusal, ReadsText, WritesText};
+ghost use Rattle.pool_text.specs.Unread.{unread_number, unread_line, wrong_number};
 ghost use Rattle.pool_text.specs.Here.{Here};
 ghost use Rattle.pool_text.specs.ReadLoop.{LinesRead};
 
+use lists::Refusal;
 use numbers::Layout;
 
-// The answer of the reader: with refusal 12, `line` is the first wrong line, counted from 1; else 0.
+// Why a text is not read.
+#[derive(Clone, Copy, Debug, PartialEq, Eq)]
+pub enum Unread {
+    // the layout, or the image's length
+    Refused(Refusal),
+    // the first wrong line, counted from 1
+    WrongLine(u64),
+}
+
+// The answer of the reader, as C has it: with refusal 12, `line` is the first wrong line, counted from 1; else 0.
 #[repr(C)]
-#[derive(Clone, Copy)]
+#[derive(Clone, Copy, Debug, Default, PartialEq, Eq)]
 pub struct TextRead {
     pub refusal: u64,
     pub line: u64,
 }
 
+impl From<Result<(), Unread>> for TextRead {
+    ghost from_gives = { λ answer read. (read.refusal ≡ unread_number answer) × (read.line ≡ unread_line answer) };
+
+    fn from(answer: Result<(), Unread>) -> TextRead {
+        match answer {
+            Ok(_) => TextRead::default(),
+            Err(Unread::Refused(refusal)) => TextRead {
+                refusal: refusal.into(),
+                line: 0,
+            },
+            Err(Unread::WrongLine(line)) => TextRead {
+                refusal: Refusal::WrongLine.into(),
+                line,
+            },
+        }
+    }
+}
+
 // Line i: where it begins in the text, where its unit begins in the image, its target and its frame.
-#[derive(Clone, Copy)]
+#[derive(Clone, Copy, Debug, Default, PartialEq, Eq)]
 pub struct Line {
     pub i: u64,
     pub at: usize,
@@ -32,13 +62,7 @@ pub struct Line {
 fn first_line(y: Layout) -> Line
     ensures { Here y result × (result.i ≡ 0) }
 {
-    Line {
-        i: 0,
-        at: 0,
-        begins: 0,
-        target: 0,
-        frame: 0,
-    }
+    Line::default()
 }
 
 // Counted on, with no division.
@@ -46,38 +70,35 @@ fn next_line(y: Layout, frames: u64, here: Line) -> Line
     requires { Valid y × (frames ≡ framesOf y) × Here y here × (here.i < line_count y) }
     ensures { Here y result × (result.i ≡ here.i + 1) }
 {
-    let at = here.at + 11 + 2 * y.u as usize;
-    let begins = here.begins + y.u as usize;
+    let next = Line {
+        i: here.i + 1,
+        at: here.at + 11 + 2 * y.u as usize,
+        begins: here.begins + y.u as usize,
+        ..here
+    };
     if here.frame + 1 == frames {
         return Line {
-            i: here.i + 1,
-            at: at,
-            begins: begins,
             target: here.target + 1,
             frame: 0,
+            ..next
         };
     }
     Line {
-        i: here.i + 1,
-        at: at,
-        begins: begins,
-        target: here.target,
         frame: here.frame + 1,
+        ..next
     }
 }
 
-fn image_refusal(y: Layout, image: usize) -> u64
-    ensures { result ≡ image_refusal y image }
+// What both calls test first.
+fn check_image(y: Layout, image: usize) -> Result<(), Refusal>
+    ensures { answer_number result ≡ image_refusal y image }
 {
-    let refusal = numbers::refusal(y);
-    if refusal != 0 {
-        return refusal;
-    }
+    numbers::check(y)?;
     let m = numbers::numbers_of(y);
     if image as u64 != m.image {
-        return 2;
+        return Err(Refusal::ImageLength);
     }
-    0
+    Ok(())
 }
 
 // ---- the writer
@@ -88,7 +109,7 @@ fn write_lines(y: Layout, frames: u64, image: &[u8], text: &mut [u8])
 {
     let lines = y.p * frames;
     let mut here = first_line(y);
-    while here.i < lines {
+    for i in 0..lines {
         hex_text::write_line(
             image,
             here.begins,
@@ -103,37 +124,38 @@ fn write_lines(y: Layout, frames: u64, image: &[u8], text: &mut [u8])
 }
 
 // Writes the hex lines of the whole pool: targets rising, frames rising within each.
-pub fn write_text(y: Layout, image: &[u8], text: &mut [u8]) -> u64
-    ensures { WritesText y image.now text.old result text.new }
+pub fn write_text(y: Layout, image: &[u8], text: &mut [u8]) -> Result<(), Refusal>
+    ensures { WritesText y image.now text.old (answer_number result) text.new }
 {
-    let refusal = image_refusal(y, image.len());
-    if refusal != 0 {
+    let checked = check_image(y, image.len());
+    if let Err(refusal) = checked {
         lists::clear(text);
-        return refusal;
+        return Err(refusal);
     }
     let m = numbers::numbers_of(y);
     if text.len() as u64 != (11 + 2 * y.u) * (y.p * m.frames) {
         lists::clear(text);
-        return 5;
+        return Err(Refusal::BufferLength);
     }
     write_lines(y, m.frames, image, text);
-    0
+    Ok(())
 }
 
 // ---- the reader
 
-// Reads the lines into the image, and answers the number of the first wrong one, 0 where there is none.
-fn read_lines(y: Layout, frames: u64, text: &[u8], image: &mut [u8]) -> u64
+// Reads the lines into the image, or answers the number of the first wrong one, counted from 1.
+fn read_lines(y: Layout, frames: u64, text: &[u8], image: &mut [u8]) -> Result<(), u64>
     requires { Valid y × (frames ≡ framesOf y) × (length image.old ≡ image_length y) }
-    ensures { LinesRead y text.now image.old image.new result }
+    ensures lines { LinesRead y text.now image.old image.new (wrong_number result) }
+    ensures from_1 { MatchResult result (λ read. Unit {0}) (λ number. 0 < number) }
 {
     let u = y.u as usize;
     let lines = y.p * frames;
     let mut here = first_line(y);
-    while here.i < lines {
-        let number = here.i + 1;
+    for i in 0..lines {
+        let number = i + 1;
         if text.len() - here.at < 11 + 2 * u {
-            return number;
+            return Err(number);
         }
         if !hex_text::read_line(
             text,
@@ -144,33 +166,30 @@ fn read_lines(y: Layout, frames: u64, text: &[u8], image: &mut [u8]) -> u64
             here.begins,
             u,
         ) {
-            return number;
+            return Err(number);
         }
         here = next_line(y, frames, here);
     }
     if here.at != text.len() {
-        return lines + 1;
+        return Err(lines + 1);
     }
-    0
+    Ok(())
 }
 
 // Fills the image with what the hex lines of a whole pool tell.
-pub fn read_text(y: Layout, text: &[u8], image: &mut [u8]) -> TextRead
-    ensures { ReadsText y image.old text.now result.refusal result.line image.new }
+pub fn read_text(y: Layout, text: &[u8], image: &mut [u8]) -> Result<(), Unread>
+    ensures { ReadsText y image.old text.now (unread_number result) (unread_line result) image.new }
 {
-    let refusal = image_refusal(y, image.len());
-    if refusal != 0 {
+    let checked = check_image(y, image.len());
+    if let Err(refusal) = checked {
         lists::clear(image);
-        return TextRead { refusal, line: 0 };
+        return Err(Unread::Refused(refusal));
     }
     let m = numbers::numbers_of(y);
-    let line = read_lines(y, m.frames, text, image);
-    if line != 0 {
+    let read = read_lines(y, m.frames, text, image);
+    if let Err(line) = read {
         lists::clear(image);
-        return TextRead { refusal: 12, line };
+        return Err(Unread::WrongLine(line));
     }
-    TextRead {
-        refusal: 0,
-        line: 0,
-    }
+    Ok(())
 }
