@@ -3,10 +3,11 @@
 // where another set of contents is missing than in the group before.
 #![tactic(auto)]
 
-ghost use Rattle.std.specs.Prelude.{◌≡◌, false, ℕ, ◌+◌, ◌≤◌, ◌<◌, get_or};
-ghost use Rattle.numbers.specs.Layouts.{Valid, width, contents, all_groups};
+ghost use Rattle.std.specs.Prelude.{◌≡◌, false, ℕ, ◌+◌, ◌≤◌, ◌<◌, get_or, slice_index_or, length};
+ghost use Rattle.numbers.specs.Layouts.{Valid, width, frames, contents, all_groups};
 ghost use Rattle.numbers.specs.Answers.{Shaped};
-ghost use Rattle.place.specs.Places.{tile_permutation};
+ghost use Rattle.place.specs.declared.Place.{Place as PlaceOf};
+ghost use Rattle.place.specs.Places.{place_of, tile_permutation};
 ghost use Rattle.place.specs.Bytes.{spot};
 ghost use Rattle.homes.specs.Standing.{InTile};
 ghost use Rattle.homes.specs.Records.{failed, Good};
@@ -16,6 +17,7 @@ ghost use Rattle.survey.specs.Surveyed.{Surveyed, Surveying};
 
 use homes::Record;
 use numbers::{Layout, Shape};
+use place::Place;
 use plan::Plan;
 
 // The target of each unit of a group, and where the unit begins in the image.
@@ -25,7 +27,30 @@ pub struct Sites {
     pub starts: [usize; 22],
 }
 
-// The divisions are made once a group, for its first unit: the others lie in one cell after another.
+// Writes what `f` tells of the places of a group's units, from unit `first` on. The divisions are made once, for the first: the others lie in one cell
+// after another.
+fn fill_by_units<T: Copy, F: Fn(Place) -> T>(
+    y: Layout,
+    s: Shape,
+    to: &[u8; 64],
+    g: u64,
+    first: u64,
+    out: &mut [T],
+    f: F,
+)
+    requires units { InTile y s to.now g × (first < width y) × (first + length out.old ≤ width y) }
+    requires callable { (a : PlaceOf) → a.frame < frames y → a.target < y.p → F.pre f a }
+    ensures long { length out.new ≡ length out.old }
+    ensures each { (c : ℕ) → c < length out.new → (d : T) → F.post f (place_of y g (first + c)) (slice_index_or out.new c d) }
+{
+    let mut cell = place::cell_of(y, s, g, first);
+    for x in out.iter_mut() {
+        let a = place::place_at(to, cell);
+        *x = f(a);
+        cell = place::next_cell(y, cell);
+    }
+}
+
 pub fn sites_of(y: Layout, s: Shape, to: &[u8; 64], g: u64) -> Sites
     requires { InTile y s to.now g }
     ensures { Sited y g result }
@@ -33,14 +58,16 @@ pub fn sites_of(y: Layout, s: Shape, to: &[u8; 64], g: u64) -> Sites
     let w = s.w as usize;
     let mut targets = [0u8; 22];
     let mut starts = [0usize; 22];
-    let mut cell = place::cell_of(y, s, g, 0);
-    for u in 0..w {
-        let a = place::place_at(to, cell);
-        let start = place::spot_of(y, s, a, 0);
-        targets[u] = a.target as u8;
-        starts[u] = start as usize;
-        cell = place::next_cell(y, cell);
-    }
+    fill_by_units(y, s, to, g, 0, &mut targets[..w], |a| a.target as u8);
+    fill_by_units(
+        y,
+        s,
+        to,
+        g,
+        0,
+        &mut starts[..w],
+        |a| place::spot_of(y, s, a, 0) as usize,
+    );
     Sites { targets, starts }
 }
 
@@ -50,13 +77,15 @@ fn unit_starts(y: Layout, s: Shape, to: &[u8; 64], g: u64, first: u64, count: us
     ensures { (c : ℕ) → c < count → get_or result c 0 ≡ spot y g (first + c) 0 }
 {
     let mut at = [0usize; 19];
-    let mut cell = place::cell_of(y, s, g, first);
-    for c in 0..count {
-        let a = place::place_at(to, cell);
-        let start = place::spot_of(y, s, a, 0);
-        at[c] = start as usize;
-        cell = place::next_cell(y, cell);
-    }
+    fill_by_units(
+        y,
+        s,
+        to,
+        g,
+        first,
+        &mut at[..count],
+        |a| place::spot_of(y, s, a, 0) as usize,
+    );
     at
 }
 
@@ -74,7 +103,7 @@ pub fn spare_starts(y: Layout, s: Shape, to: &[u8; 64], g: u64) -> [usize; 19]
     ensures { (i : ℕ) → i < y.k → get_or result i 0 ≡ spot y g (contents y + i) 0 }
 {
     if y.k == 0 {
-        return [0usize; 19];
+        return [0; 19];
     }
     unit_starts(y, s, to, g, y.n + y.k, y.k as usize)
 }
@@ -85,15 +114,17 @@ fn own_missing(y: Layout, s: Shape, r: Record, to: &[u8; 64], g: u64) -> [bool; 
     ensures { (c : ℕ) → c < contents y → get_or result c false ≡ failed r (target_at y g c) }
 {
     let m = (y.n + y.k) as usize;
-    let failed = r.failed;
     let k = r.k as usize;
     let mut missing = [false; 19];
-    let mut cell = place::cell_of(y, s, g, 0);
-    for c in 0..m {
-        let a = place::place_at(to, cell);
-        missing[c] = homes::is_listed(failed, k, a.target);
-        cell = place::next_cell(y, cell);
-    }
+    fill_by_units(
+        y,
+        s,
+        to,
+        g,
+        0,
+        &mut missing[..m],
+        |a| homes::is_listed(r.failed, k, a.target),
+    );
     missing
 }
 
@@ -104,8 +135,7 @@ fn home_starts(starts: [usize; 22], homes: [usize; 19], m: usize) -> [usize; 19]
 {
     let mut at = [0usize; 19];
     for c in 0..m {
-        let unit = homes[c];
-        at[c] = starts[unit];
+        at[c] = starts[homes[c]];
     }
     at
 }
@@ -127,18 +157,12 @@ pub fn stand_of(y: Layout, s: Shape, r: Record, to: &[u8; 64], g: u64) -> Stand
         let missing = own_missing(y, s, r, to, g);
         return Stand { at, missing };
     }
-    let n = y.n;
     let spares = y.k as usize;
-    let m = (n + y.k) as usize;
-    let failed = r.failed;
-    let k = r.k as usize;
-    let q = r.q as usize;
+    let m = (y.n + y.k) as usize;
     let sites = sites_of(y, s, to, g);
-    let targets = sites.targets;
-    let starts = sites.starts;
-    let homes = homes::homes_of(targets, m, spares, failed, q);
-    let missing = homes::missing_of(targets, homes, m, spares, failed, k);
-    let at = home_starts(starts, homes, m);
+    let homes = homes::homes_of(sites.targets, m, spares, r.failed, r.q as usize);
+    let missing = homes::missing_of(sites.targets, homes, m, spares, r.failed, r.k as usize);
+    let at = home_starts(sites.starts, homes, m);
     Stand { at, missing }
 }
 
@@ -147,16 +171,17 @@ pub fn new_starts(y: Layout, s: Shape, r: Record, to: &[u8; 64], g: u64) -> [usi
     requires { Good y r × InTile y s to.now g }
     ensures { StartsUnder y r r.k g result }
 {
-    let n = y.n;
-    let spares = y.k as usize;
-    let m = (n + y.k) as usize;
-    let failed = r.failed;
-    let k = r.k as usize;
-    let sites = sites_of(y, s, to, g);
-    let targets = sites.targets;
-    let starts = sites.starts;
-    let homes = homes::homes_of(targets, m, spares, failed, k);
-    home_starts(starts, homes, m)
+    listed_starts(y, r, sites_of(y, s, to, g))
+}
+
+// The same of the group whose units are at these sites.
+fn listed_starts(y: Layout, r: Record, sites: Sites) -> [usize; 19]
+    requires { Valid y × Good y r × ((g : ℕ) × Sited y g sites) }
+    ensures { (g : ℕ) → Sited y g sites → StartsUnder y r r.k g result }
+{
+    let m = (y.n + y.k) as usize;
+    let homes = homes::homes_of(sites.targets, m, y.k as usize, r.failed, r.k as usize);
+    home_starts(sites.starts, homes, m)
 }
 
 // Where a group's contents begin under one record, and where under another.
@@ -171,20 +196,10 @@ pub fn shift_of(y: Layout, s: Shape, r: Record, other: Record, to: &[u8; 64], g:
     requires { Good y r × Good y other × InTile y s to.now g }
     ensures { Shifts y r other g result }
 {
-    let spares = y.k as usize;
-    let m = (y.n + y.k) as usize;
     let sites = sites_of(y, s, to, g);
-    let targets = sites.targets;
-    let starts = sites.starts;
-    let old_list = r.failed;
-    let new_list = other.failed;
-    let old = homes::homes_of(targets, m, spares, old_list, r.k as usize);
-    let new = homes::homes_of(targets, m, spares, new_list, other.k as usize);
-    let before = home_starts(starts, old, m);
-    let after = home_starts(starts, new, m);
     Shift {
-        from: before,
-        to: after,
+        from: listed_starts(y, r, sites),
+        to: listed_starts(y, other, sites),
     }
 }
 
@@ -203,7 +218,7 @@ pub fn begin(y: Layout, s: Shape, g: u64) -> Survey
 {
     let tile = g / s.c;
     let to = place::permutation(y, tile);
-    let plan = plan::plan_whole(y.n as usize, y.k as usize, y.u as usize, [0usize; 19]);
+    let plan = plan::plan_whole(y.n as usize, y.k as usize, y.u as usize, [0; 19]);
     Survey { tile, to, plan }
 }
 
@@ -213,9 +228,10 @@ pub fn tile_to(y: Layout, last: u64, to: [u8; 64], tile: u64) -> [u8; 64]
     ensures { result ≡ tile_permutation y tile }
 {
     if last == tile {
-        return to;
+        to
+    } else {
+        place::permutation(y, tile)
     }
-    place::permutation(y, tile)
 }
 
 // The plan of group g. Where no target has failed, as mostly, there is nothing to look for but where the units begin; where all that failed are
@@ -225,8 +241,7 @@ pub fn next(last: Survey, y: Layout, s: Shape, r: Record, g: u64) -> Survey
     ensures { Surveying y result × Surveyed y r r.q g result.plan }
 {
     let tile = g / s.c;
-    let before = last.to;
-    let to = tile_to(y, last.tile, before, tile);
+    let to = tile_to(y, last.tile, last.to, tile);
     if r.k == 0 {
         let at = own_starts(y, s, &to, g);
         let plan = plan::plan_whole(y.n as usize, y.k as usize, y.u as usize, at);
@@ -238,9 +253,6 @@ pub fn next(last: Survey, y: Layout, s: Shape, r: Record, g: u64) -> Survey
         return Survey { tile, to, plan };
     }
     let stand = stand_of(y, s, r, &to, g);
-    let at = stand.at;
-    let missing = stand.missing;
-    let old = last.plan;
-    let plan = plan::plan_next(old, at, missing);
+    let plan = plan::plan_next(last.plan, stand.at, stand.missing);
     Survey { tile, to, plan }
 }
