@@ -2,7 +2,6 @@
 #![tactic(auto)]
 
 ghost use Rattle.std.specs.Prelude.{◌≡◌, ◌≤◌, ◌<◌};
-ghost use Rattle.lists.specs.Pick.{bit};
 ghost use Rattle.numbers.specs.Layouts.{Valid, frames};
 ghost use Rattle.homes.specs.Records.{Good};
 ghost use Rattle.pool.specs.Counting.{missing_units, on_target};
@@ -20,26 +19,16 @@ fn is_home(y: Layout, s: Shape, r: Record, to: &[u8; 64], at: Unit) -> bool
     ensures { result ≡ is_home y r at.group at.unit }
 {
     let contents = y.n + y.k;
-    let unit = at.unit;
-    if unit < contents {
+    if at.unit < contents {
         return true;
     }
-    let repaired = r.q;
-    if repaired == 0 {
+    if r.q == 0 {
         return false;
     }
     let m = contents as usize;
-    let failed = r.failed;
     let sites = survey::sites_of(y, s, to, at.group);
-    let targets = sites.targets;
-    let homes = homes::homes_of(targets, m, y.k as usize, failed, repaired as usize);
-    homes::is_home(homes, m, unit as usize)
-}
-
-fn one_if(t: bool) -> u64
-    ensures { result ≡ bit t }
-{
-    if t { 1 } else { 0 }
+    let homes = homes::homes_of(sites.targets, m, y.k as usize, r.failed, r.q as usize);
+    homes::is_home(homes, m, at.unit as usize)
 }
 
 // In the rows of one tile: its permutation is worked out once, and the target's column found in it once.
@@ -49,11 +38,10 @@ fn in_tile(y: Layout, s: Shape, r: Record, target: u64, tile: u64) -> u64
 {
     let to = place::permutation(y, tile);
     let column = tile::column_of(&to, target);
-    let rows = s.l;
-    let mut n: u64 = 0;
-    for row in 0..rows {
+    let mut n = 0;
+    for row in 0..s.l {
         let unit = place::unit_at(y, s, tile, row, column);
-        n += one_if(is_home(y, s, r, &to, unit));
+        n += u64::from(is_home(y, s, r, &to, unit));
     }
     n
 }
@@ -63,9 +51,8 @@ pub fn on_target(y: Layout, s: Shape, r: Record, target: u64) -> u64
     requires { Walking y s r target }
     ensures { (result ≡ on_target y r target) × (result ≤ frames y) }
 {
-    let tiles = y.t;
-    let mut n: u64 = 0;
-    for tile in 0..tiles {
+    let mut n = 0;
+    for tile in 0..y.t {
         n += in_tile(y, s, r, target, tile);
     }
     n
@@ -77,11 +64,9 @@ pub fn missing_units(y: Layout, r: Record) -> u64
     ensures { result ≡ missing_units y r }
 {
     let s = numbers::shape_of(y);
-    let failed = r.failed;
-    let k = r.k as usize;
-    let mut n: u64 = 0;
-    for i in (r.q as usize)..k {
-        n += on_target(y, s, r, failed[i]);
+    let mut n = 0;
+    for &target in &r.failed[r.q as usize..r.k as usize] {
+        n += on_target(y, s, r, target);
     }
     n
 }

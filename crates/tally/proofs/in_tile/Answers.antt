@@ -31,14 +31,14 @@ is_home-requires c = let p = c.requires in
     unit_here_lem _ _ _ _ p.0 _ _ p.1 c.loop-row-test.true _ c.permutation-to.ensures _ (held c)
 
 pub overflow_add-n : goal.overflow_add-n
-overflow_add-n c = omega (arith, c.loop-row.invariant, c.requires.0.shape.l_few, c.one_if-n.ensures, bit_le c.is_home.result)
+overflow_add-n c = omega (arith, c.loop-row.invariant, c.requires.0.shape.l_few, c.from-n.ensures, bit_le c.is_home.result)
 
 pub loop-row-preserved : goal.loop-row-preserved
 loop-row-preserved c = let p = c.requires in
     let i = c.loop-row.invariant in (
       omega arith,
-      omega (arith, c.one_if-n.ensures, bit_le c.is_home.result),
-      row_turn _ _ _ _ p.0 _ _ p.1 c.loop-row-test.true _ _ _ _ i.2 (held c.before.before) c.is_home.ensures c.one_if-n.ensures,
+      omega (arith, c.from-n.ensures, bit_le c.is_home.result),
+      row_turn _ _ _ _ p.0 _ _ p.1 c.loop-row-test.true _ _ _ _ i.2 (held c.before.before) c.is_home.ensures c.from-n.ensures,
     )
 
 pub returns : goal.returns
