@@ -3,7 +3,6 @@ pub mod Blank
 pub mod Key
 pub mod Catalogue
 pub mod Promise
-pub mod Pass
 pub mod Span
 pub mod Look
 pub mod Plans
@@ -14,7 +13,6 @@ pub mod Orders
 pub mod Splits
 pub mod Rolls
 pub mod Maps
-pub mod Passes
 pub mod Searches
 pub mod Devices
 pub mod Looks

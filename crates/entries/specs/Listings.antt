@@ -1,5 +1,5 @@
 -- What a listing answers and leaves, said of the whole list.
-use Rattle.std.specs.Prelude.{◌≡◌, ℕ, zero, suc, ◌+◌, ◌-◌, ◌≤◌, ◌<◌, Bool, ltb, leb, get_or, set, take, drop, replicate}
+use Rattle.std.specs.Prelude.{◌≡◌, ℕ, zero, suc, ◌+◌, ◌-◌, ◌≤◌, ◌<◌, Bool, ltb, leb, get_or, set, take, drop, replicate, Option, Some, None}
 use Rattle.std.proofs.Math.Path.{refl, sym, ap, subst}
 use Rattle.std.proofs.Common.{◌∙◌, arith, length-append, length-drop, take-append-drop, length-take-le, take-suc, drop-cons, take_all}
 use Rattle.std.proofs.Common.{get_or-drop, get_or-append-add, get_or-take, ltb-true, ltb-false, lt-ltb, le-ltb}
@@ -22,7 +22,7 @@ use Rattle.entries.specs.Key.{rising}
 use Rattle.entries.specs.Span.{past_count}
 use Rattle.entries.specs.Look.{searched, scan_of}
 use Rattle.entries.specs.Listed.{listed, wiped}
-use Rattle.entries.specs.Plans.{hidden_of, shown_by, shown_of, continued_of, end_of, view_of, window_of, report_of}
+use Rattle.entries.specs.Plans.{hidden_of, shown_by, shown_of, end_of, window_of, record_at, report_of}
 use Rattle.entries.specs.Catalogue.{before, onward, sound, cobs, files, listing_tests, page_by, listing_of, listed_out}
 use Rattle.entries.specs.Splits.{Within, onward-within}
 use Rattle.entries.specs.Devices.{past_whole}
@@ -79,38 +79,34 @@ stands k n ys s =
 
 -- ---- what a listing shows: nothing where the catalogue is bad, else a part of the records or all of them
 
-data View (at total len room : ℕ) (s : Bool) (w : Show) : Type 0 where
-  bad : s ≡ false → w ≡ hidden_of len room → View at total len room s w
-  part : s ≡ true → room < total → w ≡ record { from = at; count = room; wiped = 0; refusal = 0; more = true; after = at + room; next = nought }
-      → View at total len room s w
-  all : s ≡ true → total ≤ room → w ≡ record { from = at; count = total; wiped = 0; refusal = 0; more = false; after = len; next = nought }
-      → View at total len room s w
+data View (at total room : ℕ) (s : Bool) (w : Show) : Type 0 where
+  bad : s ≡ false → w ≡ hidden_of room → View at total room s w
+  part : s ≡ true → room < total → w ≡ record { from = at; count = room; wiped = 0; refusal = 0; after = Some (at + room) }
+      → View at total room s w
+  all : s ≡ true → total ≤ room → w ≡ record { from = at; count = total; wiped = 0; refusal = 0; after = None }
+      → View at total room s w
 
-view_by : (at total end len room : ℕ) (s : Bool) → (s ≡ true → end ≡ at + total) → View at total len room s (shown_by at end len room s)
-view_by at total end len room false h = bad refl refl
-view_by at total end len room true h = by_test (ltb room (end - at)) refl
+view_by : (at total end room : ℕ) (s : Bool) → (s ≡ true → end ≡ at + total) → View at total room s (shown_by at end room s)
+view_by at total end room false h = bad refl refl
+view_by at total end room true h = by_test (ltb room (end - at)) refl
   where
     by_test : (t : Bool) → ltb room (end - at) ≡ t
-        → View at total len room true (pick t
-        (record { from = at; count = room; wiped = 0; refusal = 0; more = true; after = at + room; next = nought })
-        (record { from = at; count = end - at; wiped = 0; refusal = 0; more = false; after = len; next = nought }))
+        → View at total room true (pick t
+        (record { from = at; count = room; wiped = 0; refusal = 0; after = Some (at + room) })
+        (record { from = at; count = end - at; wiped = 0; refusal = 0; after = None }))
     by_test true e = part refl (omega (arith, ltb-true room (end - at) e, h refl)) refl
     by_test false e =
         all refl (omega (arith, ltb-false room (end - at) e, h refl))
         (let c : end - at ≡ total = omega (arith, h refl) in
-        ap {B = Show} (λ (j : ℕ). record { from = at; count = j; wiped = 0; refusal = 0; more = false; after = len; next = nought }) c)
+        ap {B = Show} (λ (j : ℕ). record { from = at; count = j; wiped = 0; refusal = 0; after = None }) c)
 
 -- what a call makes of it
-abbrev finished : List Entry → Show → Show
-finished ys w = continued_of w (get_or ys w.after blank)
+abbrev pub finished : List Entry → Show → Page
+finished ys w = report_of w (record_at ys w.after)
 
 -- what the loops leave
 abbrev pub output : Show → List Entry → List Wide → List Wide
 output w ys os = wiped w.wiped (listed w.count w.from ys os)
-
-get_d_end : (ys : List Entry) → get_or ys (length ys) blank ≡ blank
-get_d_end [] = refl
-get_d_end (y ∷ ys) = get_d_end ys
 
 get_d_over : (ws : List Wide) (i : ℕ) → length ws ≤ i → get_or ws i nought ≡ nought
 get_d_over [] i l = refl
@@ -135,17 +131,17 @@ module _ (k : Key) (n : ℕ) (ys : List Entry) where
   pub place-before-end : (scan_of k n ys).at ≤ end_of k n ys
   place-before-end = omega (arith, scan_place k n ys, past_whole k (searched n ys))
 
-  view : (room : ℕ) → View at total (length ys) room (sound n ys) (view_of k n room ys)
+  view : (room : ℕ) → View at total room (sound n ys) (window_of k n room ys)
   unfolding shown_of
-  view room = subst (View at total (length ys) room (sound n ys)) (sym shown_is) (view_by at total (end_of k n ys) (length ys) room (sound n ys) end_is)
+  view room = subst (View at total room (sound n ys)) (sym shown_is) (view_by at total (end_of k n ys) room (sound n ys) end_is)
     where
       placed_at : (s : Bool) → (s ≡ true → (scan_of k n ys).at ≡ at)
-          → shown_by (scan_of k n ys).at (end_of k n ys) (length ys) room s ≡ shown_by at (end_of k n ys) (length ys) room s
-      placed_at true h = ap (λ (j : ℕ). shown_by j (end_of k n ys) (length ys) room true) (h refl)
+          → shown_by (scan_of k n ys).at (end_of k n ys) room s ≡ shown_by at (end_of k n ys) room s
+      placed_at true h = ap (λ (j : ℕ). shown_by j (end_of k n ys) room true) (h refl)
       placed_at false h = refl
 
-      shown_is : view_of k n room ys ≡ shown_by at (end_of k n ys) (length ys) room (sound n ys)
-      shown_is = cc (scan_len k n ys, scan_sound k n ys) ∙ placed_at (sound n ys) (scan_at k n ys)
+      shown_is : window_of k n room ys ≡ shown_by at (end_of k n ys) room (sound n ys)
+      shown_is = cc (scan_sound k n ys) ∙ placed_at (sound n ys) (scan_at k n ys)
 
   room_for : sound n ys ≡ true → at + total ≤ length ys
   room_for s =
@@ -161,10 +157,9 @@ module _ (k : Key) (n : ℕ) (ys : List Entry) where
   pub listing_inside : (room : ℕ)
       → ((window_of k n room ys).from + (window_of k n room ys).count ≤ length ys) × ((window_of k n room ys).count ≤ room) ×
       ((window_of k n room ys).wiped ≤ room)
-  listing_inside room = by_view (view_of k n room ys) (view room)
+  listing_inside room = by_view (window_of k n room ys) (view room)
     where
-      by_view : (w : Show) → View at total (length ys) room (sound n ys) w
-          → (w.from + w.count ≤ length ys) × (w.count ≤ room) × (w.wiped ≤ room)
+      by_view : (w : Show) → View at total room (sound n ys) w → (w.from + w.count ≤ length ys) × (w.count ≤ room) × (w.wiped ≤ room)
       by_view w (bad s e) =
           subst (λ (v : Show). (v.from + v.count ≤ length ys) × (v.count ≤ room) × (v.wiped ≤ room)) (sym e)
           (omega arith, omega arith, omega arith)
@@ -174,6 +169,17 @@ module _ (k : Key) (n : ℕ) (ys : List Entry) where
       by_view w (all s l e) =
           subst (λ (v : Show). (v.from + v.count ≤ length ys) × (v.count ≤ room) × (v.wiped ≤ room)) (sym e)
           (omega (arith, room_for s), omega arith, omega arith)
+
+  -- the first record that is left out, if there is one, stands in the slice
+  pub after_inside : (room i : ℕ) → (window_of k n room ys).after ≡ Some i → i < length ys
+  after_inside room i h = by_view (window_of k n room ys) (view room) h
+    where
+      by_view : (w : Show) → View at total room (sound n ys) w → w.after ≡ Some i → i < length ys
+      by_view w (bad s e) f = let z : ◌≡◌ {A = Option ℕ} None (Some i) = sym (ap (λ (v : Show). v.after) e) ∙ f in cc
+      by_view w (part s l e) f =
+          let z : ◌≡◌ {A = Option ℕ} (Some (at + room)) (Some i) = sym (ap (λ (v : Show). v.after) e) ∙ f in
+          let q : at + room ≡ i = cc in omega (arith, room_for s)
+      by_view w (all s l e) f = let z : ◌≡◌ {A = Option ℕ} None (Some i) = sym (ap (λ (v : Show). v.after) e) ∙ f in cc
 
   -- ---- the answer
 
@@ -186,41 +192,41 @@ module _ (k : Key) (n : ℕ) (ys : List Entry) where
       ∙ ap (λ (t : List Entry). get_or t j blank) (take-append_seam ls (stands k n ys s).beyond)
 
   -- where the call is accepted, and where it is not
-  good_page : (room : ℕ) (w : Show) → sound n ys ≡ true → w.refusal ≡ 0 → w.count ≡ length (take room (cobs k (take n ys)))
-      → w.more ≡ ltb room (length (cobs k (take n ys))) → (get_or ys w.after blank).file ≡ get_or (files ls) room nought
-      → report_of (finished ys w) ≡ page_by (refusal_by (listing_tests n ys)) (length (take room (cobs k (take n ys)))) (ltb room (length (cobs k
-      (take n ys)))) (get_or (files ls) room nought)
+  good_page : (room count : ℕ) (more : Bool) (next : Wide) → sound n ys ≡ true → count ≡ length (take room (cobs k (take n ys)))
+      → more ≡ ltb room (length (cobs k (take n ys))) → next ≡ get_or (files ls) room nought
+      → ◌≡◌ {A = Page} (record { refusal = 0; count = count; more = more; next = next })
+      (page_by (refusal_by (listing_tests n ys)) (length (take room (cobs k (take n ys)))) (ltb room (length (cobs k (take n ys))))
+      (get_or (files ls) room nought))
   unfolding refusal_by ◌or_else◌
-  good_page room w s e₁ e₂ e₃ e₄ =
-      cc (e₁, e₂, e₃, e₄)
+  good_page room count more next s e₁ e₂ e₃ =
+      cc (e₁, e₂, e₃)
       ∙ sym (ap (λ (b : Bool). page_by (refusal_by ((b, 9) ∷ [])) (length (take room (cobs k (take n ys)))) (ltb room (length (cobs k
       (take n ys)))) (get_or (files ls) room nought)) s)
 
-  pub listing_report : (os : List Wide) → report_of (window_of k n (length os) ys) ≡ listing_of k n ys os
+  pub listing_report : (os : List Wide) → finished ys (window_of k n (length os) ys) ≡ listing_of k n ys os
   unfolding refusal_by ◌or_else◌
-  listing_report os = by_view (view_of k n (length os) ys) (view (length os))
+  listing_report os = by_view (window_of k n (length os) ys) (view (length os))
     where
       size : length (cobs k (take n ys)) ≡ total
       size = length-map ls record_cob
 
-      by_view : (w : Show) → View at total (length ys) (length os) (sound n ys) w → report_of (finished ys w) ≡ listing_of k n ys os
+      by_view : (w : Show) → View at total (length os) (sound n ys) w → finished ys w ≡ listing_of k n ys os
       by_view w (bad s e) =
-          ap (λ (v : Show). report_of (finished ys v)) e
-          ∙ ap {B = Page} (λ (r : Entry). record { refusal = 9; count = 0; more = false; next = r.file }) (get_d_end ys)
+          ap (finished ys) e
           ∙ sym (ap (λ (b : Bool). page_by (refusal_by ((b, 9) ∷ [])) (length (take (length os) (cobs k (take n ys)))) (ltb (length os) (length (cobs k
           (take n ys)))) (get_or (files ls) (length os) nought)) s)
       by_view w (part s l e) =
-          good_page (length os) w s (ap (λ (v : Show). v.refusal) e)
-          (ap (λ (v : Show). v.count) e ∙ sym (length-take-le (length os) (cobs k (take n ys)) (omega (arith, size))))
-          (ap (λ (v : Show). v.more) e ∙ sym (lt-ltb (length os) (length (cobs k (take n ys))) (omega (arith, size))))
-          (ap (λ (v : Show). (get_or ys v.after blank).file) e ∙ ap (λ (r : Entry). r.file) (after_them (length os) s l)
-          ∙ sym (get_or-map (λ (r : Entry). r.file) ls (length os) blank))
+          ap (finished ys) e
+          ∙ good_page (length os) (length os) true (get_or ys (at + length os) blank).file s
+          (sym (length-take-le (length os) (cobs k (take n ys)) (omega (arith, size))))
+          (sym (lt-ltb (length os) (length (cobs k (take n ys))) (omega (arith, size))))
+          (ap (λ (r : Entry). r.file) (after_them (length os) s l) ∙ sym (get_or-map (λ (r : Entry). r.file) ls (length os) blank))
       by_view w (all s l e) =
-          good_page (length os) w s (ap (λ (v : Show). v.refusal) e)
-          (ap (λ (v : Show). v.count) e ∙ sym (ap length (take_all (length os) (cobs k (take n ys)) (omega (arith, size))) ∙ size))
-          (ap (λ (v : Show). v.more) e ∙ sym (le-ltb (length os) (length (cobs k (take n ys))) (omega (arith, size))))
-          (ap (λ (v : Show). (get_or ys v.after blank).file) e ∙ ap (λ (r : Entry). r.file) (get_d_end ys)
-          ∙ sym (get_d_over (files ls) (length os) (omega (arith, length-map ls (λ (r : Entry). r.file)))))
+          ap (finished ys) e
+          ∙ good_page (length os) total false nought s
+          (sym (ap length (take_all (length os) (cobs k (take n ys)) (omega (arith, size))) ∙ size))
+          (sym (le-ltb (length os) (length (cobs k (take n ys))) (omega (arith, size))))
+          (sym (get_d_over (files ls) (length os) (omega (arith, length-map ls (λ (r : Entry). r.file)))))
 
   -- ---- the output
 
@@ -240,7 +246,7 @@ module _ (k : Key) (n : ℕ) (ys : List Entry) where
 
   pub listing_output : (os : List Wide) → output (window_of k n (length os) ys) ys os ≡ listed_out k n ys os
   unfolding refusal_by ◌or_else◌ listed
-  listing_output os = by_view (view_of k n (length os) ys) (view (length os))
+  listing_output os = by_view (window_of k n (length os) ys) (view (length os))
     where
       zs : List Wide
       zs = over (take (length os) (cobs k (take n ys))) os
@@ -248,7 +254,7 @@ module _ (k : Key) (n : ℕ) (ys : List Entry) where
       granted : (b : Bool) → sound n ys ≡ b → listed_out k n ys os ≡ grant (refusal_by ((b, 9) ∷ [])) zs (replicate (length os) nought)
       granted b s = ap (λ (t : Bool). grant (refusal_by ((t, 9) ∷ [])) zs (replicate (length os) nought)) s
 
-      by_view : (w : Show) → View at total (length ys) (length os) (sound n ys) w → output w ys os ≡ listed_out k n ys os
+      by_view : (w : Show) → View at total (length os) (sound n ys) w → output w ys os ≡ listed_out k n ys os
       by_view w (bad s e) =
           ap (λ (v : Show). output v ys os) e ∙ ap (λ (t : List Wide). replicate (length os) nought ++ t) (drop-length os)
           ∙ append-nil (replicate (length os) nought) ∙ sym (granted false s)

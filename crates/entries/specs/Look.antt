@@ -1,5 +1,5 @@
 -- What a call finds of its key: whether the catalogue is sound, how many keys are below, and what stands there.
-use Rattle.std.specs.Prelude.{ℕ, Bool, false, List, ltb, length, get_or, take}
+use Rattle.std.specs.Prelude.{ℕ, Bool, false, List, ltb, length, get_or, take, Option, Some, None}
 use Rattle.lists.specs.Pick.{pick, both}
 use Rattle.entries.specs.declared.Entry.{Entry}
 use Rattle.entries.specs.declared.Key.{Key}
@@ -20,8 +20,7 @@ look_of n len s key at there = record {
   sound = s;
   upto = trusted_of n s;
   at = at;
-  found = both (ltb at (trusted_of n s)) (key_eq (key_of there) key);
-  cob = there.cob;
+  found = pick (both (ltb at (trusted_of n s)) (key_eq (key_of there) key)) (Some there.cob) None;
 }
 
 -- the records that are searched, and the place of a key among them

@@ -1,5 +1,5 @@
 -- What a call finds of its key, said of the whole list: the record at the place that the search gave is the one of the key, if there is one.
-use Rattle.std.specs.Prelude.{◌≡◌, ℕ, ◌≤◌, ◌<◌, Bool, false, ltb, leb, length, get_or, take}
+use Rattle.std.specs.Prelude.{◌≡◌, ℕ, ◌≤◌, ◌<◌, Bool, false, ltb, leb, length, get_or, take, Option, Some, None}
 use Rattle.std.proofs.Math.Path.{refl, sym, ap}
 use Rattle.std.proofs.Common.{◌∙◌, zero-le, arith, length-take, length-append, length-take-le, get_or-take, ltb-true, leb-true, lt-ltb, le-ltb}
 use Rattle.std.proofs.Math.Bool.{true}
@@ -17,7 +17,7 @@ use Rattle.entries.specs.Blank.{blank}
 use Rattle.entries.specs.Key.{key_of, key_lt, key_eq, rising}
 use Rattle.entries.specs.Catalogue.{before, holders, after, sound, cob_of, found_by, lookup_of}
 use Rattle.entries.specs.Look.{trusted_of, look_of, searched, place_of, scan_of}
-use Rattle.entries.specs.Plans.{answer_of, IsPlaced}
+use Rattle.entries.specs.Plans.{given, answer_of, is_there, IsPlaced}
 use Rattle.entries.specs.Orders.{gt_ne, eq_refl}
 use Rattle.entries.specs.Splits.{Split, new, old, split}
 use Rattle.entries.specs.Searches.{past_le}
@@ -33,6 +33,27 @@ unfolding refusal_by ◌or_else◌
 found_is true [] = refl
 found_is true (r ∷ rs) = refl
 found_is false xs = refl
+
+-- what is found of the records of a key
+abbrev pub held : List Entry → Option Wide
+held [] = None
+held (r ∷ rs) = Some r.cob
+
+pub there-held : (xs : List Entry) → is_there (held xs) ≡ nonempty xs
+there-held [] = refl
+there-held (r ∷ rs) = refl
+
+given-held : (xs : List Entry) → given (held xs) ≡ held_cob xs
+given-held [] = refl
+given-held (r ∷ rs) = refl
+
+picked : (xs : List Entry) (c : Wide) → (nonempty xs ≡ true → c ≡ cob_of xs) → pick (nonempty xs) (Some c) None ≡ held xs
+picked [] c e = refl
+picked (r ∷ rs) c e = ap Some (e refl)
+
+there_picked : (t : Bool) (c : Wide) → is_there (pick t (Some c) None) ≡ t
+there_picked true c = refl
+there_picked false c = refl
 
 -- ---- the record that stands where the keys below k end
 
@@ -119,13 +140,13 @@ module _ (key : Key) (n : ℕ) (ys : List Entry) where
   unfolding look_of
   scan_place = refl
 
-  found_by_lem : (scan_of key n ys).found ≡ both (ltb (place_of key n ys) (trusted_of n (sound n ys))) (key_eq (key_of (get_or ys (place_of key n ys) blank)) key)
+  -- the record at the place that the search gave is one that was searched, and has the key
+  abbrev tests : Bool
+  tests = both (ltb (place_of key n ys) (trusted_of n (sound n ys))) (key_eq (key_of (get_or ys (place_of key n ys) blank)) key)
+
+  found_by_lem : (scan_of key n ys).found ≡ pick tests (Some (get_or ys (place_of key n ys) blank).cob) None
   unfolding look_of
   found_by_lem = refl
-
-  cob_by : (scan_of key n ys).cob ≡ (get_or ys (place_of key n ys) blank).cob
-  unfolding look_of
-  cob_by = refl
 
   -- no more records are searched than the count says
   trusted_le : trusted_of n (sound n ys) ≤ n
@@ -144,7 +165,8 @@ module _ (key : Key) (n : ℕ) (ys : List Entry) where
       scan_n,
       trusted_le,
       ltb-true (place_of key n ys) (trusted_of n (sound n ys)) (both_true (ltb (place_of key n ys) (trusted_of n (sound n ys)))
-          (key_eq (key_of (get_or ys (place_of key n ys) blank)) key) (sym found_by_lem ∙ f)).0,
+          (key_eq (key_of (get_or ys (place_of key n ys) blank)) key) (sym (there_picked tests (get_or ys (place_of key n ys) blank).cob)
+          ∙ sym (ap is_there found_by_lem) ∙ f)).0,
     ),
   )
     where
@@ -178,10 +200,9 @@ module _ (key : Key) (n : ℕ) (ys : List Entry) where
     pub scan_at : (scan_of key n ys).at ≡ length (before key (take n ys))
     scan_at = scan_place ∙ place_is
 
-    pub scan_found : (scan_of key n ys).found ≡ nonempty (holders key (take n ys))
-    scan_found =
-        found_by_lem
-        ∙ ap (λ (p : ℕ). both (ltb p (trusted_of n (sound n ys))) (key_eq (key_of (get_or ys p blank)) key)) place_is
+    tests_are : tests ≡ nonempty (holders key (take n ys))
+    tests_are =
+        ap (λ (p : ℕ). both (ltb p (trusted_of n (sound n ys))) (key_eq (key_of (get_or ys p blank)) key)) place_is
         ∙ ap (λ (m : ℕ). both (ltb place m) (key_eq (key_of (get_or ys place blank)) key)) all
         ∙ by_test (ltb place n) refl
         ∙ ap (λ (m : ℕ). both (ltb place m) (key_eq (key_of (get_or (take n ys) place blank)) key)) (sym (length-take-le n ys fits))
@@ -192,29 +213,25 @@ module _ (key : Key) (n : ℕ) (ys : List Entry) where
         by_test true e = ap (λ (r : Entry). key_eq (key_of r) key) (here (ltb-true place n e))
         by_test false e = refl
 
-    pub scan_cob : (scan_of key n ys).found ≡ true → (scan_of key n ys).cob ≡ cob_of (holders key (take n ys))
-    scan_cob f =
-        cob_by ∙ ap (λ (p : ℕ). (get_or ys p blank).cob) place_is
-        ∙ ap (λ (r : Entry). r.cob) (here (omega (arith, scan_placed.1 f, scan_at, scan_n)))
-        ∙ cob_at key (take n ys) rises (sym scan_found ∙ f)
+    cob_is : nonempty (holders key (take n ys)) ≡ true → (get_or ys (place_of key n ys) blank).cob ≡ cob_of (holders key (take n ys))
+    cob_is f =
+        ap (λ (p : ℕ). (get_or ys p blank).cob) place_is
+        ∙ ap (λ (r : Entry). r.cob) (here (omega (arith, ltb-true (place_of key n ys) (trusted_of n (sound n ys)) (both_true (ltb (place_of key n ys)
+        (trusted_of n (sound n ys))) (key_eq (key_of (get_or ys (place_of key n ys) blank)) key) (tests_are ∙ f)).0, place_is, all)))
+        ∙ cob_at key (take n ys) rises f
+
+    pub scan_found : (scan_of key n ys).found ≡ held (holders key (take n ys))
+    scan_found =
+        found_by_lem ∙ ap (λ (t : Bool). pick t (Some (get_or ys (place_of key n ys) blank).cob) None) tests_are
+        ∙ picked (holders key (take n ys)) (get_or ys (place_of key n ys) blank).cob cob_is
 
   -- what a lookup makes of it is what the documents say
   pub looked_up : answer_of (scan_of key n ys) ≡ lookup_of key n ys
   unfolding answer_of look_of
   looked_up =
-      by_test (sound n ys) (scan_of key n ys).found (scan_of key n ys).cob (holders key (take n ys)) scan_found scan_cob refl
-      ∙ sym (found_is (sound n ys) (holders key (take n ys)))
+      by_test (sound n ys) (scan_of key n ys).found scan_found refl ∙ sym (found_is (sound n ys) (holders key (take n ys)))
     where
-      held : (f : Bool) (c : Wide) (hs : List Entry) → f ≡ nonempty hs → (f ≡ true → c ≡ cob_of hs)
-          → pick f (record { refusal = 0; cob = c }) (record { refusal = 11; cob = nought }) ≡ held_cob hs
-      held f c [] e g = ap (λ (b : Bool). pick {A = Found} b (record { refusal = 0; cob = c }) (record { refusal = 11; cob = nought })) e
-      held f c (r ∷ rs) e g =
-          ap (λ (b : Bool). pick {A = Found} b (record { refusal = 0; cob = c }) (record { refusal = 11; cob = nought })) e
-          ∙ ap {B = Found} (λ (z : Wide). record { refusal = 0; cob = z }) (g e)
-
-      by_test : (s f : Bool) (c : Wide) (hs : List Entry) → (sound n ys ≡ true → f ≡ nonempty hs) → (sound n ys ≡ true → f ≡ true → c ≡ cob_of hs)
-          → sound n ys ≡ s
-          → pick s (pick f (record { refusal = 0; cob = c }) (record { refusal = 11; cob = nought })) (record { refusal = 9; cob = nought })
-          ≡ pick s (held_cob hs) (found_by 9 nought)
-      by_test true f c hs e g s = held f c hs (e s) (g s)
-      by_test false f c hs e g s = refl
+      by_test : (s : Bool) (o : Option Wide) → (sound n ys ≡ true → o ≡ held (holders key (take n ys))) → sound n ys ≡ s
+          → pick s (given o) (record { refusal = 9; cob = nought }) ≡ pick s (held_cob (holders key (take n ys))) (found_by 9 nought)
+      by_test true o e s = ap given (e s) ∙ given-held (holders key (take n ys))
+      by_test false o e s = refl

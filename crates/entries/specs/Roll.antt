@@ -1,18 +1,24 @@
 -- A run over records that stores, at each place, the record of the place before it, upwards or downwards.
-use Rattle.std.specs.Prelude.{ℕ, zero, suc, ◌+◌, ◌-◌, ◌≤◌, ◌<◌, Bool, true, false, List, get_or, set}
+use Rattle.std.specs.Prelude.{ℕ, suc, ◌-◌, ◌≤◌, ◌<◌, ⊤, List, ◌∷◌, ◌++◌, take, drop, Result, Ok, Err}
 use Rattle.entries.specs.declared.Entry.{Entry}
-use Rattle.entries.specs.Blank.{blank}
+use Rattle.entries.specs.declared.Plan.{Plan}
+use Rattle.entries.specs.declared.Way.{Way}
+use Rattle.entries.specs.declared.Way.TheVariants.{Up, Down}
 
-abbrev pub moved_to : Bool → ℕ → ℕ
-moved_to true at = at - 1
-moved_to false at = at + 1
+-- the list after a run over the places from `from` up to `end`, with c in the place that is left
+abbrev pub rolled : Way → ℕ → ℕ → Entry → List Entry → List Entry
+rolled Up from end c ys = take from ys ++ c ∷ (take (end - from - 1) (drop from ys) ++ drop end ys)
+rolled Down from end c ys = take from ys ++ (take (end - from - 1) (drop (suc from) ys) ++ c ∷ drop end ys)
 
--- the list after m turns from the place at, with c to store there
-unfoldable pub rolled : ℕ → Bool → ℕ → Entry → List Entry → List Entry
-rolled zero d at c ys = ys
-rolled (suc m) d at c ys = rolled m d (moved_to d at) (get_or ys at blank) (set ys at c)
+-- what a change leaves of the slots
+abbrev pub rolled_by : Result Plan ℕ → List Entry → List Entry
+rolled_by (Ok w) ys = rolled w.way w.from w.end w.first ys
+rolled_by (Err number) ys = ys
 
--- every place of the run lies within n records
-abbrev pub IsInside : Bool → ℕ → ℕ → ℕ → Type 0
-IsInside true at m n = (m ≤ at + 1) × (at < n)
-IsInside false at m n = at + m ≤ n
+-- the run has a place, and lies within n records
+abbrev pub IsInside : Plan → ℕ → Type 0
+IsInside w n = (w.from < w.end) × (w.end ≤ n)
+
+abbrev pub AnyInside : Result Plan ℕ → ℕ → Type 0
+AnyInside (Ok w) n = IsInside w n
+AnyInside (Err number) n = ⊤

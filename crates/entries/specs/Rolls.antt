@@ -1,85 +1,41 @@
 -- A run over the slice, said with lists.
-use Rattle.std.specs.Prelude.{◌≡◌, refl, ℕ, zero, suc, ◌+◌, ◌-◌, true, false, List, [], ◌∷◌, ◌++◌, length, get_or, set}
-use Rattle.std.proofs.Common.{sym, ap, ◌∙◌, suc-add, add-zero, arith, append_assoc, length-append}
-use Rattle.std.proofs.lemmas.List.{set_at, get_or_at}
+use Rattle.std.specs.Prelude.{◌≡◌, refl, ℕ, suc, ◌+◌, ◌-◌, List, ◌∷◌, ◌++◌, length, take, drop}
+use Rattle.std.proofs.Common.{sym, ap, ◌∙◌, arith}
+use Rattle.std.proofs.Math.Seq.{take-append_seam, drop-append_seam, drop-append-add}
 use Rattle.entries.specs.declared.Entry.{Entry}
-use Rattle.entries.specs.Blank.{blank}
+use Rattle.entries.specs.declared.Way.TheVariants.{Up, Down}
 use Rattle.entries.specs.Roll.{rolled}
 
--- what stands in front of a run upwards is left
-pub rolled-cons : (m at : ℕ) (c y : Entry) (ys : List Entry) → rolled m false (suc at) c (y ∷ ys) ≡ y ∷ rolled m false at c ys
-unfolding rolled
-rolled-cons zero at c y ys = refl
-rolled-cons (suc m) at c y ys =
-    ap (λ (j : ℕ). rolled m false j (get_or ys at blank) (y ∷ set ys at c)) (suc-add at 1) ∙ rolled-cons m (at + 1) (get_or ys at blank) y (set ys at c)
+-- past one element more
+drop_one_more : (ps zs : List Entry) (z : Entry) → drop (suc (length ps)) (ps ++ z ∷ zs) ≡ zs
+drop_one_more ps zs z =
+    let e : suc (length ps) ≡ length ps + 1 = omega arith in
+    ap (λ (j : ℕ). drop j (ps ++ z ∷ zs)) e ∙ drop-append-add ps (z ∷ zs) 1
 
 -- a run upwards puts c in front of qs, and the record after qs is gone
 pub rolled_up : (ps qs : List Entry) (c z : Entry) (zs : List Entry)
-    → rolled (suc (length qs)) false (length ps) c (ps ++ (qs ++ z ∷ zs)) ≡ ps ++ c ∷ (qs ++ zs)
-unfolding rolled
-rolled_up [] [] c z zs = refl
-rolled_up [] (q ∷ qs) c z zs = rolled-cons (suc (length qs)) 0 q c (qs ++ z ∷ zs) ∙ ap {B = List Entry} (λ t. c ∷ t) (rolled_up [] qs q z zs)
-rolled_up (p ∷ ps) qs c z zs =
-    rolled-cons (suc (length qs)) (length ps) c p (ps ++ (qs ++ z ∷ zs)) ∙ ap {B = List Entry} (λ t. p ∷ t) (rolled_up ps qs c z zs)
-
--- a list that is not empty, from its end
-record Snoc (m : ℕ) (qs : List Entry) : Type 0 where
-  front : List Entry
-  last : Entry
-  size : length front ≡ m
-  is : qs ≡ front ++ last ∷ []
-
-unsnoc : (m : ℕ) (qs : List Entry) → length qs ≡ suc m → Snoc m qs
-unsnoc m [] e = absurd (omega (arith, e))
-unsnoc zero (q ∷ []) e = record { front = []; last = q; size = refl; is = refl }
-unsnoc zero (q ∷ p ∷ qs) e = absurd (omega (arith, e))
-unsnoc (suc m) (q ∷ qs) e = more (unsnoc m qs (omega (arith, e)))
-  where
-    more : Snoc m qs → Snoc (suc m) (q ∷ qs)
-    more t = record { front = q ∷ t.front; last = t.last; size = ap suc t.size; is = ap {B = List Entry} (λ l. q ∷ l) t.is }
-
-down_step : (m : ℕ) (ps qs : List Entry) (c z : Entry) (zs : List Entry) → length qs ≡ suc m
-    → ((fs : List Entry) (f : Entry) → length fs ≡ m → rolled (suc m) true (length ps + m) f (ps ++ z ∷ (fs ++ c ∷ zs)) ≡ ps ++ (fs ++ f ∷ c ∷ zs))
-    → rolled (suc m) true (length ps + suc m - 1) (get_or (ps ++ z ∷ (qs ++ zs)) (length ps + suc m) blank) (set (ps ++ z ∷ (qs ++ zs))
-    (length ps + suc m) c) ≡ ps ++ (qs ++ c ∷ zs)
-down_step m ps qs c z zs e h = by_snoc (unsnoc m qs e)
-  where
-    by_snoc : Snoc m qs
-        → rolled (suc m) true (length ps + suc m - 1) (get_or (ps ++ z ∷ (qs ++ zs)) (length ps + suc m) blank) (set (ps ++ z ∷ (qs ++ zs))
-        (length ps + suc m) c) ≡ ps ++ (qs ++ c ∷ zs)
-    by_snoc t =
-        ap (λ (l : List Entry). rolled (suc m) true (length ps + suc m - 1) (get_or l (length ps + suc m) blank) (set l (length ps + suc m) c)) shape
-        ∙ ap (λ (y : Entry). rolled (suc m) true (length ps + suc m - 1) y (set (front ++ t.last ∷ zs) (length ps + suc m) c)) (get_or_at front
-        t.last zs blank (length ps + suc m) size)
-        ∙ ap (rolled (suc m) true (length ps + suc m - 1) t.last) (set_at front t.last zs c (length ps + suc m) size ∙ append_assoc ps
-        (z ∷ t.front) (c ∷ zs))
-        ∙ ap (λ (j : ℕ). rolled (suc m) true j t.last (ps ++ z ∷ (t.front ++ c ∷ zs))) place
-        ∙ h t.front t.last t.size
-        ∙ ap (λ (l : List Entry). ps ++ l) (sym (append_assoc t.front (t.last ∷ []) (c ∷ zs)) ∙ ap (λ (l : List Entry). l ++ c ∷ zs) (sym
-        t.is))
-      where
-        front : List Entry
-        front = ps ++ z ∷ t.front
-
-        shape : ps ++ z ∷ (qs ++ zs) ≡ front ++ t.last ∷ zs
-        shape =
-            ap (λ (l : List Entry). ps ++ z ∷ (l ++ zs)) t.is ∙ ap (λ (l : List Entry). ps ++ z ∷ l) (append_assoc t.front (t.last ∷ []) zs)
-            ∙ sym (append_assoc ps (z ∷ t.front) (t.last ∷ zs))
-
-        size : length front ≡ length ps + suc m
-        size = length-append ps (z ∷ t.front) ∙ ap (λ (j : ℕ). length ps + suc j) t.size
-
-        place : length ps + suc m - 1 ≡ length ps + m
-        place = omega arith
-
-down_by : (m : ℕ) (ps qs : List Entry) (c z : Entry) (zs : List Entry) → length qs ≡ m
-    → rolled (suc m) true (length ps + m) c (ps ++ z ∷ (qs ++ zs)) ≡ ps ++ (qs ++ c ∷ zs)
-unfolding rolled
-down_by zero ps [] c z zs e = set_at ps z zs c (length ps + 0) (sym (add-zero (length ps)))
-down_by zero ps (q ∷ qs) c z zs e = absurd (omega (arith, e))
-down_by (suc m) ps qs c z zs e = down_step m ps qs c z zs e (λ fs f l. down_by m ps fs f z (c ∷ zs) l)
+    → rolled Up (length ps) (length ps + suc (length qs)) c (ps ++ (qs ++ z ∷ zs)) ≡ ps ++ c ∷ (qs ++ zs)
+rolled_up ps qs c z zs =
+    let many : length ps + suc (length qs) - length ps - 1 ≡ length qs = omega arith in
+    cc (
+      many,
+      take-append_seam ps (qs ++ z ∷ zs),
+      drop-append_seam ps (qs ++ z ∷ zs),
+      drop-append-add ps (qs ++ z ∷ zs) (suc (length qs)),
+      take-append_seam qs (z ∷ zs),
+      drop_one_more qs zs z,
+    )
 
 -- a run downwards takes z out, and puts c behind qs
 pub rolled_down : (ps qs : List Entry) (c z : Entry) (zs : List Entry)
-    → rolled (suc (length qs)) true (length ps + length qs) c (ps ++ z ∷ (qs ++ zs)) ≡ ps ++ (qs ++ c ∷ zs)
-rolled_down ps qs c z zs = down_by (length qs) ps qs c z zs refl
+    → rolled Down (length ps) (length ps + suc (length qs)) c (ps ++ z ∷ (qs ++ zs)) ≡ ps ++ (qs ++ c ∷ zs)
+rolled_down ps qs c z zs =
+    let many : length ps + suc (length qs) - length ps - 1 ≡ length qs = omega arith in
+    cc (
+      many,
+      take-append_seam ps (z ∷ (qs ++ zs)),
+      drop_one_more ps (qs ++ zs) z,
+      drop-append-add ps (z ∷ (qs ++ zs)) (suc (length qs)),
+      take-append_seam qs zs,
+      drop-append_seam qs zs,
+    )

@@ -7,7 +7,6 @@ use Rattle.lists.specs.Pick.{pick, clash}
 use Rattle.lists.specs.Passing.{passing, passing_no}
 use Rattle.entries.specs.declared.Entry.{Entry}
 use Rattle.entries.specs.declared.Key.{Key}
-use Rattle.entries.specs.Blank.{blank}
 use Rattle.entries.specs.Key.{key_of, key_lt, rising_from, rising}
 use Rattle.entries.specs.Span.{past_of, past_count}
 use Rattle.entries.specs.Orders.{Lt, by_device, by_file, of_lt, lt_trans, not-lt}
@@ -32,22 +31,22 @@ past_none k w a (x ∷ xs) h e =
     here = past_closed k w (first_lt a x xs h) e
 
 -- of a record in a rising list, the search goes past it exactly if it stands before the place that is sought
-pub past_at : (k : Key) (w : Bool) (xs : List Entry) → rising xs ≡ true → (i : ℕ) → i < length xs
-    → past_of k w (key_of (get_or xs i blank)) ≡ ltb i (past_count k w xs)
-past_at k w [] h i l = absurd (not-suc-le-zero l)
-past_at k w (x ∷ xs) h zero l = by_test (past_of k w (key_of x)) refl
+pub past_at : (k : Key) (w : Bool) (xs : List Entry) → rising xs ≡ true → (i : ℕ) (d : Entry) → i < length xs
+    → past_of k w (key_of (get_or xs i d)) ≡ ltb i (past_count k w xs)
+past_at k w [] h i d l = absurd (not-suc-le-zero l)
+past_at k w (x ∷ xs) h zero d l = by_test (past_of k w (key_of x)) refl
   where
     by_test : (t : Bool) → past_of k w (key_of x) ≡ t
         → t ≡ ltb 0 (length (pick t (x ∷ passing (λ (r : Entry). past_of k w (key_of r)) xs) (passing (λ (r : Entry). past_of k w (key_of r)) xs)))
     by_test true e = sym (lt-ltb 0 (suc (past_count k w xs)) (omega arith))
     by_test false e = sym (ap (λ (ls : List Entry). ltb 0 (length ls)) (past_none k w (key_of x) xs h e) ∙ le-ltb 0 0 (omega arith))
-past_at k w (x ∷ xs) h (suc i) l = by_test (past_of k w (key_of x)) refl (past_at k w xs (rising-tail (key_of x) xs h) i (le_of_suc-le-suc l))
+past_at k w (x ∷ xs) h (suc i) d l = by_test (past_of k w (key_of x)) refl (past_at k w xs (rising-tail (key_of x) xs h) i d (le_of_suc-le-suc l))
   where
     rest : List Entry
     rest = passing (λ (r : Entry). past_of k w (key_of r)) xs
 
-    by_test : (t : Bool) → past_of k w (key_of x) ≡ t → past_of k w (key_of (get_or xs i blank)) ≡ ltb i (length rest)
-        → past_of k w (key_of (get_or xs i blank)) ≡ ltb (suc i) (length (pick t (x ∷ rest) rest))
+    by_test : (t : Bool) → past_of k w (key_of x) ≡ t → past_of k w (key_of (get_or xs i d)) ≡ ltb i (length rest)
+        → past_of k w (key_of (get_or xs i d)) ≡ ltb (suc i) (length (pick t (x ∷ rest) rest))
     by_test true e f = f ∙ sym (leb-suc-suc (suc i) (length rest))
     by_test false e f =
         f ∙ ap (λ (ls : List Entry). ltb i (length ls)) none ∙ le-ltb i 0 (omega arith)

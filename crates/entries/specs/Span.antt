@@ -1,10 +1,9 @@
--- A search among keys that rise: what it goes past, and the half in which it goes on.
-use Rattle.std.specs.Prelude.{ℕ, ◌+◌, ◌-◌, ◌/◌, Bool, List, leb, length}
+-- A search among keys that rise: what it goes past.
+use Rattle.std.specs.Prelude.{ℕ, Bool, List, leb, length}
 use Rattle.lists.specs.Pick.{pick}
 use Rattle.lists.specs.Passing.{passing}
 use Rattle.entries.specs.declared.Entry.{Entry}
 use Rattle.entries.specs.declared.Key.{Key}
-use Rattle.entries.specs.declared.Span.{Span}
 use Rattle.entries.specs.Key.{key_of, key_lt}
 
 -- a key below k or, of the whole device, one on the device of k or one before it
@@ -14,9 +13,3 @@ past_of k whole a = pick whole (leb a.device k.device) (key_lt a k)
 -- how many records of a list a search goes past
 abbrev pub past_count : Key → Bool → List Entry → ℕ
 past_count k whole xs = length (passing (λ (r : Entry). past_of k whole (key_of r)) xs)
-
-abbrev pub span_of : ℕ → ℕ → Span
-span_of low high = record { low = low; at = low + (high - low) / 2; high = high }
-
-unfoldable pub half_of : Span → Bool → Span
-half_of x past = pick past (span_of (x.at + 1) x.high) (span_of x.low x.at)
