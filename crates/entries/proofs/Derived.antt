@@ -1,13 +1,15 @@
 -- The derived comparisons of wide numbers and keys are those of the definitions: each field in turn, the first that differs decides.
-use Rattle.std.specs.Prelude.{◌≡◌, refl, ℕ, ◌<◌, ◌≤◌, Bool, true, false, ltb, eqb, ◌&&◌, Option, Some}
-use Rattle.std.proofs.Common.{sym, ap, ◌∙◌, arith, lt-ltb, le-ltb, eq-eqb, ne_eqb}
+use Rattle.std.specs.Prelude.{◌≡◌, refl, ℕ, ◌<◌, ◌≤◌, Bool, true, false, ltb, eqb, ◌&&◌, not, Option, Some, None}
+use Rattle.std.proofs.Common.{ap, ◌∙◌, arith, lt-ltb, le-ltb, eq-eqb, ne_eqb}
 use Rattle.std.specs.Ordering.{partial_ordering_then, nat_cmp, is_some_and, is_lt}
 use Rattle.std.specs.declared.cmp.Ordering.{Ordering}
-use Rattle.lists.specs.Pick.{pick, both, below_or_not}
+use Rattle.std.specs.Option.{option_eq}
+use Rattle.lists.specs.Pick.{pick, both, clash, below_or_not}
 use Rattle.entries.specs.declared.Wide.{Wide}
 use Rattle.entries.specs.declared.Key.{Key}
 use Rattle.entries.specs.Wide.{wide_lt, wide_eq}
 use Rattle.entries.specs.Key.{key_lt, key_eq}
+use Rattle.entries.specs.Plans.{has_cob}
 
 -- a number, and then what is compared after it
 in_turn : (a b : ℕ) (o : Option Ordering) (t : Bool) → is_some_and is_lt o ≡ t
@@ -59,3 +61,18 @@ pub key_order_of : {t : Bool} (a b : Key)
     → t ≡ is_some_and is_lt (partial_ordering_then (Some (nat_cmp a.device b.device))
     (partial_ordering_then (Some (nat_cmp a.file.first b.file.first)) (Some (nat_cmp a.file.second b.file.second)))) → t ≡ key_lt a b
 key_order_of a b e = e ∙ key_order a b
+
+-- whether a cob is the one that was found
+pub found_equality : (o : Option Wide) (c : Wide) → option_eq (λ (a b : Wide). eqb a.first b.first && eqb a.second b.second) o (Some c) ≡ has_cob o c
+found_equality (Some w) c = wide_equality w c
+found_equality None c = refl
+
+-- ---- what the opposite of a test says of it
+
+pub off : (t : Bool) → not t ≡ true → t ≡ false
+off true e = clash false e refl
+off false e = refl
+
+pub on : (t : Bool) → not t ≡ false → t ≡ true
+on true e = refl
+on false e = clash true refl e

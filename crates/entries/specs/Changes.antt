@@ -1,10 +1,12 @@
 -- What insertion and deletion leave, said of the whole list: `rolled` and `insertion_of` become `inserted`, and `deletion_of` becomes `removed`.
-use Rattle.std.specs.Prelude.{◌≡◌, refl, ℕ, suc, ◌+◌, ◌-◌, ◌≤◌, ◌<◌, Bool, true, false, ◌||◌, List, [], ◌∷◌, ◌++◌, ltb, leb, length, get_or, take, drop, ⊤, tt, Option, Some, None, Result, Ok, Err}
+use Rattle.std.specs.Prelude.{◌≡◌, refl, ℕ, suc, ◌+◌, ◌-◌, ◌≤◌, ◌<◌, Bool, true, false, ◌||◌, List, [], ◌∷◌, ◌++◌, ltb, leb, length, get_or, take, drop, Option, Result}
 use Rattle.std.proofs.Common.{sym, ap, ◌∙◌, subst, arith, append_assoc, length-append, take-append-drop, length-take-le, drop-cons, ltb-true, leb-true}
 use Rattle.std.proofs.lemmas.Bool.{false≢true}
-use Rattle.lists.specs.Pick.{pick, both, both_true}
+use Rattle.std.specs.Option.{is_some}
+use Rattle.lists.specs.Pick.{pick, both_true}
 use Rattle.lists.specs.Passing.{passing, over, nonempty}
 use Rattle.lists.specs.Refusal.{refusal_by, ◌or_else◌}
+use Rattle.lists.specs.declared.Refusal.{Refusal}
 use Rattle.entries.specs.declared.Entry.{Entry}
 use Rattle.entries.specs.declared.Plan.{Plan}
 use Rattle.entries.specs.declared.Changed.{Changed}
@@ -15,8 +17,8 @@ use Rattle.entries.specs.Key.{key_of, rising}
 use Rattle.entries.specs.Look.{scan_of}
 use Rattle.entries.specs.declared.Way.TheVariants.{Up, Down}
 use Rattle.entries.specs.Roll.{rolled, rolled_by, AnyInside}
-use Rattle.entries.specs.Plans.{is_there, has_cob, insertion_by, deletion_by, insertion_of, deletion_of, outcome_of}
-use Rattle.entries.specs.Catalogue.{before, holders, after, sound, cob_of, inserted, insert_of, inserted_list, removed, matches, delete_of, deleted_list, changed, changed_list}
+use Rattle.entries.specs.Plans.{has_cob, insertion_by, deletion_by, insertion_of, deletion_of, outcome_of}
+use Rattle.entries.specs.Catalogue.{before, holders, after, sound, inserted, insert_of, inserted_list, removed, matches, delete_of, deleted_list, changed, changed_list}
 use Rattle.entries.specs.Splits.{Split, new, old, split}
 use Rattle.entries.specs.Rolls.{rolled_up, rolled_down}
 use Rattle.entries.specs.Looks.{held, there-held, scan_n, scan_len, scan_sound, scan_at, scan_found, scan_placed}
@@ -28,8 +30,8 @@ insertion_by_lem n at at' r true f f' l p q = ap (λ (j : ℕ). insertion_by n j
 insertion_by_lem n at at' r false f f' l p q = refl
 
 there : (r : Entry) (n : ℕ) (ys : List Entry) → sound n ys ≡ true
-    → is_there (scan_of (key_of r) n ys).found ≡ nonempty (holders (key_of r) (take n ys))
-there r n ys s = ap is_there (scan_found (key_of r) n ys s) ∙ there-held (holders (key_of r) (take n ys))
+    → is_some (scan_of (key_of r) n ys).found ≡ nonempty (holders (key_of r) (take n ys))
+there r n ys s = ap is_some (scan_found (key_of r) n ys s) ∙ there-held (holders (key_of r) (take n ys))
 
 pub insertion_is : (r : Entry) (n : ℕ) (ys : List Entry)
     → insertion_of (scan_of (key_of r) n ys) r ≡ insertion_by n (length (before (key_of r) (take n ys))) r (sound n ys) (nonempty (holders (key_of r)
@@ -37,7 +39,7 @@ pub insertion_is : (r : Entry) (n : ℕ) (ys : List Entry)
 unfolding insertion_of
 insertion_is r n ys =
     cc (scan_n (key_of r) n ys, scan_len (key_of r) n ys, scan_sound (key_of r) n ys)
-    ∙ insertion_by_lem n (scan_of (key_of r) n ys).at (length (before (key_of r) (take n ys))) r (sound n ys) (is_there (scan_of (key_of r) n ys).found)
+    ∙ insertion_by_lem n (scan_of (key_of r) n ys).at (length (before (key_of r) (take n ys))) r (sound n ys) (is_some (scan_of (key_of r) n ys).found)
     (nonempty (holders (key_of r) (take n ys))) (ltb n (length ys)) (scan_at (key_of r) n ys) (there r n ys)
 
 -- what an accepted change knows: the first n records, and the rest
@@ -71,7 +73,7 @@ inside-at n at len r false f l h₁ h₂ h₃ h₄ = tt
 
 pub insertion_inside : (r : Entry) (n : ℕ) (ys : List Entry)
     → AnyInside (insertion_of (scan_of (key_of r) n ys) r) (length ys)
-insertion_inside r n ys = subst (λ (w : Result Plan ℕ). AnyInside w (length ys)) (sym (insertion_is r n ys))
+insertion_inside r n ys = subst (λ (w : Result Plan Refusal). AnyInside w (length ys)) (sym (insertion_is r n ys))
     (inside-at n (length (before (key_of r) (take n ys))) (length ys) r (sound n ys) (nonempty (holders (key_of r) (take n ys))) (ltb n (length ys))
     (λ e. (good n ys e).fits) (ltb-true n (length ys))
     (λ s. omega (arith, (scan_placed (key_of r) n ys).0, scan_at (key_of r) n ys s, scan_n (key_of r) n ys))
@@ -168,7 +170,7 @@ list_at n at r false f l zs ys h₁ h₂ = refl
 
 pub insertion_list : (r : Entry) (n : ℕ) (ys : List Entry)
     → rolled_by (insertion_of (scan_of (key_of r) n ys) r) ys ≡ inserted_list r n ys
-insertion_list r n ys = ap (λ (w : Result Plan ℕ). rolled_by w ys) (insertion_is r n ys)
+insertion_list r n ys = ap (λ (w : Result Plan Refusal). rolled_by w ys) (insertion_is r n ys)
     ∙ list_at n (length (before (key_of r) (take n ys))) r (sound n ys) (nonempty (holders (key_of r) (take n ys))) (ltb n (length ys)) (inserted r
     (take n ys)) ys (λ s f. replaced r n ys (good n ys s) f) (λ s f l. grown r n ys (good n ys s) f (ltb-true n (length ys) l))
 
@@ -228,7 +230,7 @@ delete_inside-at n at len true false h₁ h₂ = tt
 delete_inside-at n at len false m h₁ h₂ = tt
 
 pub deletion_inside : (r : Entry) (n : ℕ) (ys : List Entry) → AnyInside (deletion_of (scan_of (key_of r) n ys) r) (length ys)
-deletion_inside r n ys = subst (λ (w : Result Plan ℕ). AnyInside w (length ys)) (sym (deletion_is r n ys))
+deletion_inside r n ys = subst (λ (w : Result Plan Refusal). AnyInside w (length ys)) (sym (deletion_is r n ys))
     (delete_inside-at n (length (before (key_of r) (take n ys))) (length ys) (sound n ys) (nonempty (matches r (take n ys)))
     (λ s. (good n ys s).fits) (λ s m. omega (arith, (gone r n ys s m).size)))
 
@@ -272,6 +274,6 @@ delete_list_at n at true false zs ys h = refl
 delete_list_at n at false m zs ys h = refl
 
 pub deletion_list : (r : Entry) (n : ℕ) (ys : List Entry) → rolled_by (deletion_of (scan_of (key_of r) n ys) r) ys ≡ deleted_list r n ys
-deletion_list r n ys = ap (λ (w : Result Plan ℕ). rolled_by w ys) (deletion_is r n ys)
+deletion_list r n ys = ap (λ (w : Result Plan Refusal). rolled_by w ys) (deletion_is r n ys)
     ∙ delete_list_at n (length (before (key_of r) (take n ys))) (sound n ys) (nonempty (matches r (take n ys))) (removed r
     (take n ys) ++ blank ∷ []) ys (λ s m. shrunk r n ys s (gone r n ys s m))

@@ -5,6 +5,7 @@ pub mod Catalogue
 pub mod Promise
 pub mod Span
 pub mod Look
+pub mod Answered
 pub mod Plans
 pub mod Roll
 pub mod Listed

@@ -1,5 +1,5 @@
 -- What a call finds of its key: whether the catalogue is sound, how many keys are below, and what stands there.
-use Rattle.std.specs.Prelude.{ℕ, Bool, false, List, ltb, length, get_or, take, Option, Some, None}
+use Rattle.std.specs.Prelude.{ℕ, Bool, false, List, ltb, length, get_or, take, Some, None}
 use Rattle.lists.specs.Pick.{pick, both}
 use Rattle.entries.specs.declared.Entry.{Entry}
 use Rattle.entries.specs.declared.Key.{Key}

@@ -1,13 +1,15 @@
 -- What a call finds of its key, said of the whole list: the record at the place that the search gave is the one of the key, if there is one.
-use Rattle.std.specs.Prelude.{◌≡◌, ℕ, ◌≤◌, ◌<◌, Bool, false, ltb, leb, length, get_or, take, Option, Some, None}
+use Rattle.std.specs.Prelude.{◌≡◌, ℕ, ◌≤◌, ◌<◌, Bool, false, ltb, leb, length, get_or, take, Option, Some, None, Err}
 use Rattle.std.proofs.Math.Path.{refl, sym, ap}
 use Rattle.std.proofs.Common.{◌∙◌, zero-le, arith, length-take, length-append, length-take-le, get_or-take, ltb-true, leb-true, lt-ltb, le-ltb}
 use Rattle.std.proofs.Math.Bool.{true}
 use mathlib.Core.List.{List, [], ◌∷◌, ◌++◌}
 use Rattle.std.proofs.Math.Seq.{get_or-append_seam}
+use Rattle.std.specs.Option.{is_some}
 use Rattle.lists.specs.Pick.{pick, both, both_true, both_off, clash}
 use Rattle.lists.specs.Passing.{passing, nonempty}
 use Rattle.lists.specs.Refusal.{refusal_by, ◌or_else◌}
+use Rattle.lists.specs.declared.Refusal.TheVariants.{BadCatalogue}
 use Rattle.entries.specs.declared.Wide.{Wide}
 use Rattle.entries.specs.declared.Entry.{Entry}
 use Rattle.entries.specs.declared.Key.{Key}
@@ -17,7 +19,8 @@ use Rattle.entries.specs.Blank.{blank}
 use Rattle.entries.specs.Key.{key_of, key_lt, key_eq, rising}
 use Rattle.entries.specs.Catalogue.{before, holders, after, sound, cob_of, found_by, lookup_of}
 use Rattle.entries.specs.Look.{trusted_of, look_of, searched, place_of, scan_of}
-use Rattle.entries.specs.Plans.{given, answer_of, is_there, IsPlaced}
+use Rattle.entries.specs.Answered.{found_of}
+use Rattle.entries.specs.Plans.{given, answer_of, IsPlaced}
 use Rattle.entries.specs.Orders.{gt_ne, eq_refl}
 use Rattle.entries.specs.Splits.{Split, new, old, split}
 use Rattle.entries.specs.Searches.{past_le}
@@ -39,11 +42,11 @@ abbrev pub held : List Entry → Option Wide
 held [] = None
 held (r ∷ rs) = Some r.cob
 
-pub there-held : (xs : List Entry) → is_there (held xs) ≡ nonempty xs
+pub there-held : (xs : List Entry) → is_some (held xs) ≡ nonempty xs
 there-held [] = refl
 there-held (r ∷ rs) = refl
 
-given-held : (xs : List Entry) → given (held xs) ≡ held_cob xs
+given-held : (xs : List Entry) → found_of (given (held xs)) ≡ held_cob xs
 given-held [] = refl
 given-held (r ∷ rs) = refl
 
@@ -51,7 +54,7 @@ picked : (xs : List Entry) (c : Wide) → (nonempty xs ≡ true → c ≡ cob_of
 picked [] c e = refl
 picked (r ∷ rs) c e = ap Some (e refl)
 
-there_picked : (t : Bool) (c : Wide) → is_there (pick t (Some c) None) ≡ t
+there_picked : (t : Bool) (c : Wide) → is_some (pick t (Some c) None) ≡ t
 there_picked true c = refl
 there_picked false c = refl
 
@@ -166,7 +169,7 @@ module _ (key : Key) (n : ℕ) (ys : List Entry) where
       trusted_le,
       ltb-true (place_of key n ys) (trusted_of n (sound n ys)) (both_true (ltb (place_of key n ys) (trusted_of n (sound n ys)))
           (key_eq (key_of (get_or ys (place_of key n ys) blank)) key) (sym (there_picked tests (get_or ys (place_of key n ys) blank).cob)
-          ∙ sym (ap is_there found_by_lem) ∙ f)).0,
+          ∙ sym (ap is_some found_by_lem) ∙ f)).0,
     ),
   )
     where
@@ -216,8 +219,13 @@ module _ (key : Key) (n : ℕ) (ys : List Entry) where
     cob_is : nonempty (holders key (take n ys)) ≡ true → (get_or ys (place_of key n ys) blank).cob ≡ cob_of (holders key (take n ys))
     cob_is f =
         ap (λ (p : ℕ). (get_or ys p blank).cob) place_is
-        ∙ ap (λ (r : Entry). r.cob) (here (omega (arith, ltb-true (place_of key n ys) (trusted_of n (sound n ys)) (both_true (ltb (place_of key n ys)
-        (trusted_of n (sound n ys))) (key_eq (key_of (get_or ys (place_of key n ys) blank)) key) (tests_are ∙ f)).0, place_is, all)))
+        ∙ ap (λ (r : Entry). r.cob) (here (omega (
+          arith,
+          ltb-true (place_of key n ys) (trusted_of n (sound n ys)) (both_true (ltb (place_of key n ys)
+              (trusted_of n (sound n ys))) (key_eq (key_of (get_or ys (place_of key n ys) blank)) key) (tests_are ∙ f)).0,
+          place_is,
+          all,
+        )))
         ∙ cob_at key (take n ys) rises f
 
     pub scan_found : (scan_of key n ys).found ≡ held (holders key (take n ys))
@@ -226,12 +234,12 @@ module _ (key : Key) (n : ℕ) (ys : List Entry) where
         ∙ picked (holders key (take n ys)) (get_or ys (place_of key n ys) blank).cob cob_is
 
   -- what a lookup makes of it is what the documents say
-  pub looked_up : answer_of (scan_of key n ys) ≡ lookup_of key n ys
+  pub looked_up : found_of (answer_of (scan_of key n ys)) ≡ lookup_of key n ys
   unfolding answer_of look_of
   looked_up =
       by_test (sound n ys) (scan_of key n ys).found scan_found refl ∙ sym (found_is (sound n ys) (holders key (take n ys)))
     where
       by_test : (s : Bool) (o : Option Wide) → (sound n ys ≡ true → o ≡ held (holders key (take n ys))) → sound n ys ≡ s
-          → pick s (given o) (record { refusal = 9; cob = nought }) ≡ pick s (held_cob (holders key (take n ys))) (found_by 9 nought)
-      by_test true o e s = ap given (e s) ∙ given-held (holders key (take n ys))
+          → found_of (pick s (given o) (Err BadCatalogue)) ≡ pick s (held_cob (holders key (take n ys))) (found_by 9 nought)
+      by_test true o e s = ap (λ (w : Option Wide). found_of (given w)) (e s) ∙ given-held (holders key (take n ys))
       by_test false o e s = refl

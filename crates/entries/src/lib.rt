@@ -1,14 +1,17 @@
 // The records of the catalogue by value: their order, where a search goes on, and what each call makes of what it finds. Every decision of
-// the catalogue falls here, on values, but for what lies past a slice; the crate `catalogue` runs over the slices.
+// the catalogue falls here; the crate `catalogue` runs over the slots.
 #![tactic(auto)]
 
-ghost use Rattle.std.specs.Prelude.{◌≡◌, true, false, ◌≤◌};
-ghost use Rattle.entries.specs.Wide.{wide_lt, wide_eq};
+ghost use Rattle.std.specs.Prelude.{◌≡◌, true, false, ◌≤◌, length, replicate};
+ghost use Rattle.entries.specs.Wide.{nought, wide_lt, wide_eq};
 ghost use Rattle.entries.specs.Blank.{blank};
 ghost use Rattle.entries.specs.Key.{key_of, key_lt, key_eq, rising};
 ghost use Rattle.entries.specs.Span.{past_count};
 ghost use Rattle.entries.specs.Look.{trusted_of, look_of};
-ghost use Rattle.entries.specs.Plans.{answer_of, IsPlaced, insertion_of, deletion_of, outcome_of, hidden_of, shown_of, report_of};
+ghost use Rattle.entries.specs.Answered.{found_of, changed_of, page_of};
+ghost use Rattle.entries.specs.Plans.{answer_of, IsPlaced, insertion_of, deletion_of, shown_of, report_of};
+
+use lists::Refusal;
 
 // The number of a file or of a cob, 128 bits wide: two words, the first the more significant.
 #[repr(C)]
@@ -169,22 +172,70 @@ pub struct Page {
     pub next: Wide,
 }
 
-pub fn answer(x: Look) -> Found
+impl From<Result<Wide, Refusal>> for Found {
+    ghost from_gives = { λ answer found. found ≡ found_of answer };
+
+    fn from(answer: Result<Wide, Refusal>) -> Found {
+        match answer {
+            Ok(cob) => Found { refusal: 0, cob },
+            Err(refusal) => Found {
+                refusal: refusal.into(),
+                cob: Wide::default(),
+            },
+        }
+    }
+}
+
+impl Changed {
+    // Of a change of n records: a refused one answers the count that it was given.
+    pub fn of(answer: Result<usize, Refusal>, n: usize) -> Changed
+        ensures { result ≡ changed_of n answer }
+    {
+        match answer {
+            Ok(count) => Changed { refusal: 0, count },
+            Err(refusal) => Changed {
+                refusal: refusal.into(),
+                count: n,
+            },
+        }
+    }
+}
+
+// What an accepted listing answers: how many cobs it wrote, and the file number of the first record that is left out.
+#[derive(Clone, Copy, PartialEq, Eq, Debug)]
+pub struct Listed {
+    pub count: usize,
+    pub next: Option<Wide>,
+}
+
+impl From<Result<Listed, Refusal>> for Page {
+    ghost from_gives = { λ answer page. page ≡ page_of answer };
+
+    fn from(answer: Result<Listed, Refusal>) -> Page {
+        match answer {
+            Ok(p) => Page {
+                refusal: 0,
+                count: p.count,
+                more: p.next.is_some(),
+                next: p.next.unwrap_or_default(),
+            },
+            Err(refusal) => Page {
+                refusal: refusal.into(),
+                count: 0,
+                more: false,
+                next: Wide::default(),
+            },
+        }
+    }
+}
+
+pub fn answer(x: Look) -> Result<Wide, Refusal>
     ensures { result ≡ answer_of x }
 {
     if !x.sound {
-        return Found {
-            refusal: 9,
-            cob: Wide::default(),
-        };
+        return Err(Refusal::BadCatalogue);
     }
-    match x.found {
-        Some(cob) => Found { refusal: 0, cob },
-        None => Found {
-            refusal: 11,
-            cob: Wide::default(),
-        },
-    }
+    x.found.ok_or(Refusal::NotThere)
 }
 
 // The way in which the records of a run move.
@@ -205,13 +256,13 @@ pub struct Plan {
     pub total: usize,
 }
 
-// Where a record goes, or the number of a refusal.
-pub fn insertion(x: Look, r: Entry) -> Result<Plan, u64>
+// Where a record goes.
+pub fn insertion(x: Look, r: Entry) -> Result<Plan, Refusal>
     requires { IsPlaced x }
     ensures { result ≡ insertion_of x r }
 {
     if !x.sound {
-        return Err(9);
+        return Err(Refusal::BadCatalogue);
     }
     if x.found.is_some() {
         return Ok(Plan {
@@ -223,7 +274,7 @@ pub fn insertion(x: Look, r: Entry) -> Result<Plan, u64>
         });
     }
     if x.len <= x.n {
-        return Err(10);
+        return Err(Refusal::Full);
     }
     Ok(Plan {
         from: x.at,
@@ -234,16 +285,16 @@ pub fn insertion(x: Look, r: Entry) -> Result<Plan, u64>
     })
 }
 
-// Which record goes, or the number of a refusal.
-pub fn deletion(x: Look, r: Entry) -> Result<Plan, u64>
+// Which place is freed.
+pub fn deletion(x: Look, r: Entry) -> Result<Plan, Refusal>
     requires { IsPlaced x }
     ensures { result ≡ deletion_of x r }
 {
     if !x.sound {
-        return Err(9);
+        return Err(Refusal::BadCatalogue);
     }
     if x.found != Some(r.cob) {
-        return Err(11);
+        return Err(Refusal::NotThere);
     }
     Ok(Plan {
         from: x.at,
@@ -254,78 +305,50 @@ pub fn deletion(x: Look, r: Entry) -> Result<Plan, u64>
     })
 }
 
-// Of a change of n records.
-pub fn outcome(w: Result<Plan, u64>, n: usize) -> Changed
-    ensures { result ≡ outcome_of n w }
-{
-    match w {
-        Ok(w) => Changed {
-            refusal: 0,
-            count: w.total,
-        },
-        Err(refusal) => Changed { refusal, count: n },
-    }
-}
-
-// A listing, as a run over the slice and an answer.
+// A listing shows the records in `count` places, from the place `from` on.
 #[derive(Clone, Copy)]
 pub struct Show {
     pub from: usize,
     pub count: usize,
-    // how many places of the output become zeros
-    pub wiped: usize,
-    pub refusal: u64,
     // where the first record stands that is left out
     pub after: Option<usize>,
 }
 
-// A listing that is refused: the whole output becomes zeros.
-pub fn hidden(room: usize) -> Show
-    ensures { result ≡ hidden_of room }
-{
-    Show {
-        from: 0,
-        count: 0,
-        wiped: room,
-        refusal: 9,
-        after: None,
-    }
-}
-
 // Of the place where the device ends, and the room of the output.
-pub fn shown(x: Look, end: usize, room: usize) -> Show
+pub fn shown(x: Look, end: usize, room: usize) -> Result<Show, Refusal>
     requires { x.at ≤ end }
     ensures { result ≡ shown_of x end room }
 {
     if !x.sound {
-        return hidden(room);
+        return Err(Refusal::BadCatalogue);
     }
     if room < end - x.at {
-        return Show {
+        return Ok(Show {
             from: x.at,
             count: room,
-            wiped: 0,
-            refusal: 0,
             after: Some(x.at + room),
-        };
+        });
     }
-    Show {
+    Ok(Show {
         from: x.at,
         count: end - x.at,
-        wiped: 0,
-        refusal: 0,
         after: None,
-    }
+    })
 }
 
 // With the first record that is left out.
-pub fn report(w: Show, first: Option<Entry>) -> Page
-    ensures { result ≡ report_of w first }
+pub fn report(count: usize, first: Option<Entry>) -> Listed
+    ensures { result ≡ report_of count first }
 {
-    Page {
-        refusal: w.refusal,
-        count: w.count,
-        more: first.is_some(),
-        next: first.map(|r| r.file).unwrap_or_default(),
+    Listed {
+        count,
+        next: first.map(|r| r.file),
     }
+}
+
+// What a refused listing leaves of its output.
+pub fn wipe(out: &mut [Wide])
+    ensures { out.new ≡ replicate (length out.old) nought }
+{
+    out.fill(Wide::default());
 }

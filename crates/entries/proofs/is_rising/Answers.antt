@@ -1,5 +1,5 @@
 -- `entries::is_rising` meets its contract: each call of the test compares two keys.
-use Rattle.std.proofs.Common.{◌≡◌, ◌∙◌, rules}
+use Rattle.std.proofs.Common.{rules}
 use Rattle.std.proofs.lemmas.Fn.{always_returns_same}
 use Rattle.entries.specs.declared.Entry.{Entry}
 use Rattle.entries.specs.Key.{key_of, key_lt}

@@ -1,5 +1,5 @@
 -- `entries::place` meets its contract: what it goes past stands in front.
-use Rattle.std.proofs.Common.{◌≡◌, ◌∙◌, true, false, rules}
+use Rattle.std.proofs.Common.{false, rules}
 use Rattle.std.proofs.lemmas.List.Sorted.{IsPartitionPoint-from_clause}
 use Rattle.entries.specs.declared.Entry.{Entry}
 use Rattle.entries.specs.Key.{key_of}
