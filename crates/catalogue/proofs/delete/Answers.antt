@@ -1,5 +1,7 @@
 -- The plan is that of the key, and its run lies within the slice.
-use Rattle.std.proofs.Common.{◌≡◌, sym, ap, subst, ◌∙◌, ℕ, List, length}
+use Rattle.std.proofs.Common.{◌≡◌, sym, ap, subst, ◌∙◌, ℕ, List}
+use Rattle.std.specs.Prelude.{Result}
+use Rattle.lists.specs.declared.Refusal.{Refusal}
 use Rattle.entries.specs.declared.Entry.{Entry}
 use Rattle.entries.specs.declared.Key.{Key}
 use Rattle.entries.specs.declared.Look.{Look}
@@ -7,31 +9,45 @@ use Rattle.entries.specs.declared.Plan.{Plan}
 use Rattle.entries.specs.Key.{key_of}
 use Rattle.entries.specs.Look.{scan_of}
 use Rattle.entries.specs.Looks.{scan_placed}
-use Rattle.entries.specs.Plans.{IsPlaced, deletion_of, outcome_of}
-use Rattle.entries.specs.Roll.{rolled, IsInside}
+use Rattle.entries.specs.Catalogue.{delete_of, deleted_list}
+use Rattle.entries.specs.Plans.{IsPlaced, deletion_of}
 use Rattle.entries.specs.Changes.{deletion_inside, deletion_outcome, deletion_list}
+use Rattle.catalogue.proofs.Planned.{refused_answer, refused_slots, run_inside, run_answer, run_slots}
 use Rattle.catalogue.proofs.delete.Goals as goal
 
-the_plan : (r : Entry) (n : ℕ) (ys : List Entry) {k : Key} {x : Look} {w : Plan} → k ≡ key_of r → x ≡ scan_of k n ys → w ≡ deletion_of x r
-    → w ≡ deletion_of (scan_of (key_of r) n ys) r
+the_plan : (r : Entry) (n : ℕ) (ys : List Entry) {k : Key} {x : Look} {w : Result Plan Refusal} → k ≡ key_of r → x ≡ scan_of k n ys
+    → w ≡ deletion_of x r → w ≡ deletion_of (scan_of (key_of r) n ys) r
 the_plan r n ys e₁ e₂ e₃ = e₃ ∙ ap (λ (x : Look). deletion_of x r) (e₂ ∙ ap (λ (k : Key). scan_of k n ys) e₁)
 
-pub deletion-w-requires : goal.deletion-w-requires
-deletion-w-requires c = subst IsPlaced (sym c.scan-x.ensures) (scan_placed c.key_of-key.result c.args.n c.args.s.now)
+pub deletion-requires : goal.deletion-requires
+deletion-requires c = subst IsPlaced (sym c.scan-x.ensures) (scan_placed c.key_of.result c.args.n c.args.s.now)
+
+pub returns-in_err-plan : goal.returns-in_err-plan
+returns-in_err-plan c =
+    let e = the_plan c.args.r c.args.n c.args.s.now c.key_of.ensures c.scan-x.ensures c.deletion.ensures in
+    record {
+      answer =
+          refused_answer c.args.n c.args.s.now (deleted_list c.args.r c.args.n c.args.s.now) (delete_of c.args.r c.args.n c.args.s.now) e c.from_residual.result
+          (deletion_outcome c.args.r c.args.n c.args.s.now) c.in_err-plan.was c.from_residual.ensures.1;
+      slots =
+          refused_slots c.args.n c.args.s.now (deleted_list c.args.r c.args.n c.args.s.now) (delete_of c.args.r c.args.n c.args.s.now) e
+          (deletion_list c.args.r c.args.n c.args.s.now) c.in_err-plan.was;
+    }
 
 pub roll-requires : goal.roll-requires
 roll-requires c =
-    subst (λ (w : Plan). IsInside w.down w.from w.count (length c.args.s.now))
-    (sym (the_plan c.args.r c.args.n c.args.s.now c.key_of-key.ensures c.scan-x.ensures c.deletion-w.ensures))
-    (deletion_inside c.args.r c.args.n c.args.s.now)
+    let e = the_plan c.args.r c.args.n c.args.s.now c.key_of.ensures c.scan-x.ensures c.deletion.ensures in
+    run_inside c.args.n c.args.s.now (deleted_list c.args.r c.args.n c.args.s.now) (delete_of c.args.r c.args.n c.args.s.now) e
+    (deletion_inside c.args.r c.args.n c.args.s.now) c.in_ok-plan.was
 
 pub returns : goal.returns
 returns c =
-    let e : c.deletion-w.result ≡ deletion_of (scan_of (key_of c.args.r) c.args.n c.args.s.now) c.args.r =
-    the_plan c.args.r c.args.n c.args.s.now c.key_of-key.ensures c.scan-x.ensures c.deletion-w.ensures in
+    let e = the_plan c.args.r c.args.n c.args.s.now c.key_of.ensures c.scan-x.ensures c.deletion.ensures in
     record {
-      answer = c.outcome.ensures ∙ ap outcome_of e ∙ deletion_outcome c.args.r c.args.n c.args.s.now;
+      answer =
+          run_answer c.args.n c.args.s.now (deleted_list c.args.r c.args.n c.args.s.now) (delete_of c.args.r c.args.n c.args.s.now) e
+          (deletion_outcome c.args.r c.args.n c.args.s.now) c.in_ok-plan.was;
       slots =
-          c.roll.ensures ∙ ap (λ (w : Plan). rolled w.count w.down w.from w.first c.args.s.now) e
-          ∙ deletion_list c.args.r c.args.n c.args.s.now;
+          run_slots c.args.n c.args.s.now (deleted_list c.args.r c.args.n c.args.s.now) (delete_of c.args.r c.args.n c.args.s.now) e
+          (deletion_list c.args.r c.args.n c.args.s.now) c.in_ok-plan.was c.roll.ensures;
     }
