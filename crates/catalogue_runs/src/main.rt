@@ -7,22 +7,6 @@ use trial::{draw, newline, number, text};
 
 const ONES: u64 = 18446744073709551615;
 
-fn no_number() -> Wide {
-    Wide {
-        first: 0,
-        second: 0,
-    }
-}
-
-fn no_entries() -> [Entry; 8] {
-    let none = no_number();
-    [Entry {
-        device: 0,
-        file: none,
-        cob: none,
-    }; 8]
-}
-
 // Mostly one of three, so that numbers often differ in one word alone; now and then the largest one or a high one.
 fn any_word(seed: &mut u64) -> u64 {
     let kind = draw(seed, 16);
@@ -57,8 +41,7 @@ fn disturbed(seed: &mut u64, slots: [Entry; 8]) -> [Entry; 8] {
     let mut after = slots;
     if draw(seed, 64) == 0 {
         let at = draw(seed, 8) as usize;
-        let r = any_record(seed);
-        after[at] = r;
+        after[at] = any_record(seed);
     }
     after
 }
@@ -79,14 +62,9 @@ fn given_count(seed: &mut u64, count: usize) -> usize {
 fn altered(seed: &mut u64, w: Wide, is_first: bool) -> Wide {
     let word = any_word(seed);
     if is_first {
-        return Wide {
-            first: word,
-            second: w.second,
-        };
-    }
-    Wide {
-        first: w.first,
-        second: word,
+        Wide { first: word, ..w }
+    } else {
+        Wide { second: word, ..w }
     }
 }
 
@@ -101,17 +79,16 @@ fn named(seed: &mut u64, slots: [Entry; 8]) -> Entry {
     if aim < 2 {
         return slot;
     }
-    let mut file = slot.file;
-    let mut cob = slot.cob;
     if aim < 4 {
-        file = altered(seed, file, aim == 2);
+        Entry {
+            file: altered(seed, slot.file, aim == 2),
+            ..slot
+        }
     } else {
-        cob = altered(seed, cob, aim == 4);
-    }
-    Entry {
-        device: slot.device,
-        file,
-        cob,
+        Entry {
+            cob: altered(seed, slot.cob, aim == 4),
+            ..slot
+        }
     }
 }
 
@@ -121,15 +98,13 @@ fn print_number(rt: &impl Print, w: Wide) {
 }
 
 fn print_key(rt: &impl Print, key: Key) {
-    let file = key.file;
     number(rt, key.device);
-    print_number(rt, file);
+    print_number(rt, key.file);
 }
 
 fn print_record(rt: &impl Print, r: Entry) {
-    let cob = r.cob;
     print_key(rt, entries::key_of(r));
-    print_number(rt, cob);
+    print_number(rt, r.cob);
 }
 
 fn print_change(rt: &impl Print, given: usize, r: Entry, refusal: u64, count: usize) {
@@ -142,14 +117,13 @@ fn print_change(rt: &impl Print, given: usize, r: Entry, refusal: u64, count: us
 
 // After a change: the slots, and the count that holds from now on.
 fn settled(after: Shelf, count: usize) -> Shelf {
-    let slots = after.slots;
     if after.refusal == 0 {
         return after;
     }
     Shelf {
-        slots: slots,
         refusal: 0,
-        count: count,
+        count,
+        ..after
     }
 }
 
@@ -169,30 +143,22 @@ fn call_delete(rt: &impl Print, slots: [Entry; 8], count: usize, given: usize, r
 
 fn call_lookup(rt: &impl Print, slots: [Entry; 8], given: usize, key: Key) {
     let found = shelf::lookup(slots, given, key);
-    let cob = found.cob;
     text(rt, b"lookup");
     number(rt, given as u64);
     print_key(rt, key);
-    number(rt, found.refusal);
-    print_number(rt, cob);
+    number(rt, lists::answer_number(found));
+    print_number(rt, found.unwrap_or_default());
     newline(rt);
 }
 
 fn print_sheet(rt: &impl Print, sheet: Sheet) {
-    let next = sheet.next;
-    let out = sheet.out;
     number(rt, sheet.refusal);
     number(rt, sheet.count as u64);
-    if sheet.more {
-        number(rt, 1);
-    } else {
-        number(rt, 0);
+    number(rt, u64::from(sheet.more));
+    print_number(rt, sheet.next);
+    for w in sheet.out {
+        print_number(rt, w);
     }
-    print_number(rt, next);
-    print_number(rt, out[0]);
-    print_number(rt, out[1]);
-    print_number(rt, out[2]);
-    print_number(rt, out[3]);
     newline(rt);
 }
 
@@ -218,10 +184,9 @@ fn call_reading(rt: &impl Print, kind: u64, slots: [Entry; 8], given: usize, key
         call_listing(rt, slots, given, key);
         return;
     }
-    let file = no_number();
     let all = Key {
-        device: key.device,
-        file,
+        file: Wide::default(),
+        ..key
     };
     call_listing(rt, slots, given, all);
 }
@@ -240,28 +205,28 @@ fn one_call(rt: &impl Print, seed: &mut u64, before: [Entry; 8], count: usize) -
     }
     call_reading(rt, kind, slots, given, entries::key_of(r));
     Shelf {
-        slots: slots,
+        slots,
         refusal: 0,
-        count: count,
+        count,
     }
 }
 
 fn print_slots(rt: &impl Print, slots: [Entry; 8], count: usize) {
     text(rt, b"slots");
     number(rt, count as u64);
-    for i in 0..8 {
-        print_record(rt, slots[i]);
+    for r in slots {
+        print_record(rt, r);
     }
     newline(rt);
 }
 
 fn main(rt: HostRuntime) {
     let mut seed: u64 = 50260505;
-    let mut slots = no_entries();
+    let mut slots = [Entry::default(); 8];
     let mut count: usize = 0;
     for c in 0..2400 {
         if c % 60 == 0 {
-            slots = no_entries();
+            slots = [Entry::default(); 8];
             count = 0;
         }
         let after = one_call(&rt, &mut seed, slots, count);

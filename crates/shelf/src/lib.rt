@@ -3,12 +3,14 @@
 
 ghost use Rattle.std.specs.Prelude.{◌≡◌};
 ghost use Rattle.entries.specs.Catalogue.{insert_of, inserted_list, delete_of, deleted_list, listing_of, listed_out};
+ghost use Rattle.entries.specs.Answered.{found_of};
 ghost use Rattle.entries.specs.Promise.{Lookup};
 ghost use Rattle.shelf.specs.Shelf.{shelf_of, sheet_of};
 
-use entries::{Changed, Entry, Found, Key, Page, Wide};
+use entries::{Changed, Entry, Key, Page, Wide};
+use lists::Refusal;
 
-// The slots after a change, and its answer.
+// The slots after a change, and its answer: a refused one hands the slots back as they were, and the count that it was given.
 #[repr(C)]
 #[derive(Clone, Copy)]
 pub struct Shelf {
@@ -17,17 +19,17 @@ pub struct Shelf {
     pub count: usize,
 }
 
-fn bound(a: [Entry; 8], c: Changed) -> Shelf
-    ensures { result ≡ shelf_of a c }
+fn bound(slots: [Entry; 8], c: Changed) -> Shelf
+    ensures { result ≡ shelf_of slots c }
 {
     Shelf {
-        slots: a,
+        slots,
         refusal: c.refusal,
         count: c.count,
     }
 }
 
-// The output of a listing, and its answer.
+// The output of a listing, and its answer: a refused one hands an output of zeros back.
 #[repr(C)]
 #[derive(Clone, Copy)]
 pub struct Sheet {
@@ -41,18 +43,17 @@ pub struct Sheet {
 fn leaf(out: [Wide; 4], p: Page) -> Sheet
     ensures { result ≡ sheet_of out p }
 {
-    let next = p.next;
     Sheet {
-        out: out,
+        out,
         refusal: p.refusal,
         count: p.count,
         more: p.more,
-        next: next,
+        next: p.next,
     }
 }
 
-pub fn lookup(a: [Entry; 8], n: usize, key: Key) -> Found
-    ensures { Lookup key n a result }
+pub fn lookup(a: [Entry; 8], n: usize, key: Key) -> Result<Wide, Refusal>
+    ensures { Lookup key n a (found_of result) }
 {
     catalogue::lookup(&a, n, key)
 }
@@ -60,23 +61,23 @@ pub fn lookup(a: [Entry; 8], n: usize, key: Key) -> Found
 pub fn insert(a: [Entry; 8], n: usize, r: Entry) -> Shelf
     ensures { result ≡ shelf_of (inserted_list r n a) (insert_of r n a) }
 {
-    let mut b = a;
-    let c = catalogue::insert(&mut b, n, r);
-    bound(b, c)
+    let mut slots = a;
+    let answer = catalogue::insert(&mut slots, n, r);
+    bound(slots, Changed::of(answer, n))
 }
 
 pub fn delete(a: [Entry; 8], n: usize, r: Entry) -> Shelf
     ensures { result ≡ shelf_of (deleted_list r n a) (delete_of r n a) }
 {
-    let mut b = a;
-    let c = catalogue::delete(&mut b, n, r);
-    bound(b, c)
+    let mut slots = a;
+    let answer = catalogue::delete(&mut slots, n, r);
+    bound(slots, Changed::of(answer, n))
 }
 
 pub fn listing(a: [Entry; 8], n: usize, key: Key, out: [Wide; 4]) -> Sheet
     ensures { result ≡ sheet_of (listed_out key n a out) (listing_of key n a out) }
 {
-    let mut b = out;
-    let p = catalogue::listing(&a, n, key, &mut b);
-    leaf(b, p)
+    let mut page = out;
+    let answer = catalogue::listing(&a, n, key, &mut page);
+    leaf(page, Page::from(answer))
 }
