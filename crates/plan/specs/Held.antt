@@ -12,7 +12,7 @@ use Rattle.parity.specs.Restores.{lost_most}
 use Rattle.parity.specs.Rows.{row_of, row_gives}
 use Rattle.parity.specs.Local.{slot-there}
 use Rattle.plan.specs.declared.Plan.{Plan}
-use Rattle.plan.specs.Plans.{lines_of, miss_of, Right}
+use Rattle.plan.specs.Plans.{miss_of, Right}
 
 module _ (P : Plan) (r : Right P) where
   -- a missing content's place among them
@@ -33,14 +33,14 @@ module _ (P : Plan) (r : Right P) where
 
   -- a missing content is the sum of its row over the slots
   pub row_holds : (old : ℕ → ℕ) (c : ℕ) → c < P.n + P.k → miss_of P c ≡ true
-      → sum_to P.n (λ j. mul (ent (lines_of P.rows) (get_or P.rank c 0) j) (old (get_or P.slots j 0))) ≡ rebuilt P.n P.k (miss_of P) old c
+      → sum_to P.n (λ j. mul (ent P.rows (get_or P.rank c 0) j) (old (get_or P.slots j 0))) ≡ rebuilt P.n P.k (miss_of P) old c
   row_holds old c h t =
       sum_cong P.n _ _ (λ j k. ap₂ (λ (a b : ℕ). mul a (old b)) (entry j k) (r.slots_are j k))
       ∙ sym (row_gives P.n P.k (miss_of P) (lost_most P.n P.k (miss_of P) r.solvable) old c t)
     where
-      entry : (j : ℕ) → j < P.n → ent (lines_of P.rows) (get_or P.rank c 0) j ≡ row_of P.n P.k (miss_of P) c j
+      entry : (j : ℕ) → j < P.n → ent P.rows (get_or P.rank c 0) j ≡ row_of P.n P.k (miss_of P) c j
       entry j k =
           let p = those-place (miss_of P) (P.n + P.k) c h t in
-          ap (λ (q : ℕ). ent (lines_of P.rows) q j) (r.ranks c h)
+          ap (λ (q : ℕ). ent P.rows q j) (r.ranks c h)
           ∙ r.rows_are (count (miss_of P) c) p.0 j k
           ∙ ap (λ (u : ℕ). row_of P.n P.k (miss_of P) u j) p.1

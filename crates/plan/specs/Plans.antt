@@ -21,14 +21,14 @@ miss_of P = flag P.missing
 
 -- the coefficients of the parity units
 abbrev pub Codes : List (List ℕ) → Type 0
-Codes l = (i : ℕ) → i < 3 → (j : ℕ) → j < 16 → ent (lines_of l) i j ≡ coef i j
+Codes l = (i : ℕ) → i < 3 → (j : ℕ) → j < 16 → ent l i j ≡ coef i j
 
 -- a plan holds what its missing contents ask for
 pub record Right (P : Plan) : Type 0 where
   pub solvable : Solvable P.n P.k (miss_of P)
   pub ranks : (c : ℕ) → c < P.n + P.k → get_or P.rank c 0 ≡ count (miss_of P) c
   pub slots_are : (j : ℕ) → j < P.n → get_or P.slots j 0 ≡ slot P.n P.k (miss_of P) j
-  pub rows_are : RowsFor P.n P.k (miss_of P) (lines_of P.rows)
+  pub rows_are : RowsFor P.n P.k (miss_of P) P.rows
   pub codes_are : Codes P.codes
   pub gone_is : P.gone ≡ count (miss_of P) (P.n + P.k)
 

@@ -54,7 +54,7 @@ fn ranks(miss: [bool; 19], m: usize) -> [usize; 19]
 // The rows of a set of `gone` missing contents. Where nothing is missing, as mostly, none is read.
 fn lines_for(miss: [bool; 19], n: usize, k: usize, gone: usize) -> Lines
     requires { Solvable n k (flag miss) × (gone ≡ length (those (flag miss) (n + k))) }
-    ensures { RowsFor n k (flag miss) (lines_of result) }
+    ensures { RowsFor n k (flag miss) result }
 {
     if gone == 0 {
         return [[0; 16]; 3];

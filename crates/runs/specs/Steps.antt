@@ -14,7 +14,7 @@ use Rattle.field.specs.Sum.{sum_cong}
 use Rattle.kernel.specs.Combine.{sum_at}
 use Rattle.parity.specs.Group.{rebuilt}
 use Rattle.plan.specs.declared.Plan.{Plan}
-use Rattle.plan.specs.Plans.{lines_of, at_of, miss_of, Right, Fits, column, held}
+use Rattle.plan.specs.Plans.{at_of, miss_of, Right, Fits, column, held}
 use Rattle.plan.specs.Held.{rank_lt, rank_apart, slot_lt, row_holds}
 use Rattle.runs.specs.Run.{run_set, length-run_set, run_set_in, run_set_ext, run_set_twice, run_set_span, paint, paint-hit}
 use Rattle.runs.specs.Held.{run_of, held_run, rank_place}
@@ -48,7 +48,7 @@ add_span to len f g l₀ l l' b e s =
 
 -- the row's sum over the slots is the missing content
 pub row-run : (P : Plan) (img : List ℕ) (lo c : ℕ) (starts row : List ℕ) → Right P → c < P.n + P.k → miss_of P c ≡ true
-    → ((j : ℕ) → j < P.n → get_or starts j 0 ≡ at_of P (get_or P.slots j 0) + lo) → row ≡ get_or (lines_of P.rows) (get_or P.rank c 0) []
+    → ((j : ℕ) → j < P.n → get_or starts j 0 ≡ at_of P (get_or P.slots j 0) + lo) → row ≡ get_or P.rows (get_or P.rank c 0) []
     → (o : ℕ) → sum_at P.n row starts img o ≡ held_run P img lo c o
 unfolding held_run held column sum_at
 row-run P img lo c starts row r hc t hs hr o =
@@ -60,7 +60,7 @@ row-run P img lo c starts row r hc t hs hr o =
 module _ (P : Plan) (img : List ℕ) (lo to len : ℕ) (l₀ : List ℕ) (b : to + len ≤ length l₀) where
   -- a missing content is put
   pub lost_made : (c : ℕ) (l starts row : List ℕ) → Right P → c < P.n + P.k → miss_of P c ≡ true
-      → ((j : ℕ) → j < P.n → get_or starts j 0 ≡ at_of P (get_or P.slots j 0) + lo) → row ≡ get_or (lines_of P.rows) (get_or P.rank c 0) []
+      → ((j : ℕ) → j < P.n → get_or starts j 0 ≡ at_of P (get_or P.slots j 0) + lo) → row ≡ get_or P.rows (get_or P.rank c 0) []
       → Span (λ y. sum_at P.n row starts img (y - to)) to (to + len) l₀ l → l ≡ run_set to len (held_run P img lo c) l₀
   lost_made c l starts row r hc t hs hr s =
       put_span to len (sum_at P.n row starts img) l₀ l b s ∙ run_set_ext to len _ _ l₀ b (λ o h. row-run P img lo c starts row r hc t hs hr o)

@@ -9,39 +9,12 @@ ghost use Rattle.runs.specs.InPlace.{Clear};
 
 use plan::Plan;
 
-// m bytes of `src` from `from` on.
-fn taken(src: &[u8], from: usize, m: usize) -> [u8; 128]
-    requires { (m ≤ 128) × (from + m ≤ length src.now) }
-    ensures { (length result ≡ 128) × ((i : ℕ) → i < m → get_or result i 0 ≡ run_of src.now from i) }
-{
-    let mut b = [0u8; 128];
-    for i in 0..m {
-        b[i] = src[from + i];
-    }
-    b
-}
-
-// At most 128 bytes of `src` from `from` on, in those of `out` from `to` on.
-fn put_piece(out: &mut [u8], to: usize, src: &[u8], from: usize, m: usize)
-    requires { (m ≤ 128) × (to + m ≤ length out.old) × (from + m ≤ length src.now) }
-    ensures { out.new ≡ run_set to m (run_of src.now from) out.old }
-{
-    let b = taken(src, from, m);
-    kernel::put_block(out, &b, to, m);
-}
-
-// The `len` bytes of `src` from `from` on, in those of `out` from `to` on. Whole pieces have the literal 128 for m: once inlined they are eight
-// loads and eight stores, whether or not the two slices might overlap for all the compiler knows.
+// The `len` bytes of `src` from `from` on, in those of `out` from `to` on.
 pub fn put_run(out: &mut [u8], to: usize, src: &[u8], from: usize, len: usize)
     requires { (to + len ≤ length out.old) × (from + len ≤ length src.now) }
     ensures { out.new ≡ run_set to len (run_of src.now from) out.old }
 {
-    let mut i: usize = 0;
-    while 128 <= len - i {
-        put_piece(out, to + i, src, from + i, 128);
-        i += 128;
-    }
-    put_piece(out, to + i, src, from + i, len - i);
+    out[to..to + len].copy_from_slice(&src[from..from + len]);
 }
 
 // Zeros in the `len` bytes of `out` from `to` on.
@@ -49,9 +22,7 @@ pub fn clear_run(out: &mut [u8], to: usize, len: usize)
     requires { to + len ≤ length out.old }
     ensures { out.new ≡ run_set to len zero_byte out.old }
 {
-    for i in 0..len {
-        out[to + i] = 0;
-    }
+    out[to..to + len].fill(0);
 }
 
 // Where the units of the slots begin, from unit offset lo on.
@@ -59,12 +30,9 @@ fn slot_starts(p: Plan, size: usize, lo: usize) -> [usize; 16]
     requires { Fits p size × (lo ≤ p.u) }
     ensures { (j : ℕ) → j < p.n → get_or result j 0 ≡ at_of p (get_or p.slots j 0) + lo }
 {
-    let n = p.n;
-    let at = p.at;
-    let slots = p.slots;
     let mut r = [0usize; 16];
-    for j in 0..n {
-        r[j] = at[slots[j]] + lo;
+    for j in 0..p.n {
+        r[j] = p.at[p.slots[j]] + lo;
     }
     r
 }
@@ -83,9 +51,7 @@ pub fn rebuild_run(
     ensures { out.new ≡ run_set to len (held_run p image.now lo c) out.old }
 {
     let starts = slot_starts(p, image.len(), lo);
-    let rows = p.rows;
-    let rank = p.rank;
-    let row = plan::line(rows, rank[c]);
+    let row = p.rows[p.rank[c]];
     kernel::combine_put(out, to, image, &starts, &row, p.n, len);
 }
 
@@ -94,14 +60,11 @@ pub fn read_run(p: Plan, image: &[u8], c: usize, lo: usize, out: &mut [u8], to: 
     requires { Fits p (length image.now) × (c < p.n + p.k) × (lo + len ≤ p.u) × (to + len ≤ length out.old) }
     ensures { out.new ≡ run_set to len (held_run p image.now lo c) out.old }
 {
-    let missing = p.missing;
-    if missing[c] {
+    if p.missing[c] {
         rebuild_run(p, image, lo, c, out, to, len);
         return;
     }
-    let at = p.at;
-    let from = at[c] + lo;
-    put_run(out, to, image, from, len);
+    put_run(out, to, image, p.at[c] + lo, len);
 }
 
 // The unit of the missing content c, rebuilt within the image, at `to`: no unit that the row reads meets it, so that nothing is kept beside the image.
@@ -110,8 +73,6 @@ pub fn mend_run(p: Plan, image: &mut [u8], c: usize, to: usize)
     ensures { image.new ≡ run_set to p.u (held_run p image.old 0 c) image.old }
 {
     let starts = slot_starts(p, image.len(), 0);
-    let lines = p.rows;
-    let rank = p.rank;
-    let row = plan::line(lines, rank[c]);
+    let row = p.rows[p.rank[c]];
     kernel::combine_in(image, to, &starts, &row, p.n, p.u);
 }

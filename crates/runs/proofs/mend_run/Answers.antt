@@ -1,12 +1,17 @@
 -- `runs::mend_run`. The slots are contents that are there, so their units lie apart from `to` (`slots_apart`); the row's sum, put there, is the
 -- missing content (`lost_made`).
+use mathlib.Core.Path.{refl}
+use native.Mathlib.Omega.{arith}
 use Rattle.plan.specs.Held.{rank_lt}
 use Rattle.runs.specs.InPlace.{slots_apart}
 use Rattle.runs.specs.Steps.{lost_made}
 use Rattle.runs.proofs.mend_run.Goals as goal
 
-pub line-row-requires : goal.line-row-requires
-line-row-requires c = rank_lt _ c.requires.0.right _ c.requires.2 c.requires.3
+pub offset_bounds-p-p : goal.offset_bounds-p-p
+offset_bounds-p-p c = omega (arith, rank_lt _ c.requires.0.right _ c.requires.2 c.requires.3)
+
+pub bounds-p-p : goal.bounds-p-p
+bounds-p-p c = rank_lt _ c.requires.0.right _ c.requires.2 c.requires.3
 
 pub combine_in-requires : goal.combine_in-requires
 combine_in-requires c = let p = c.requires in (
@@ -17,4 +22,4 @@ combine_in-requires c = let p = c.requires in (
 
 pub returns : goal.returns
 returns c = let p = c.requires in
-    lost_made _ _ _ _ _ _ p.1.inside _ _ _ _ p.0.right p.2 p.3 c.slot_starts-starts.ensures c.line-row.ensures c.combine_in.ensures
+    lost_made _ _ _ _ _ _ p.1.inside _ _ _ _ p.0.right p.2 p.3 c.slot_starts-starts.ensures refl c.combine_in.ensures

@@ -1,13 +1,18 @@
 -- `runs::rebuild_run`. The row's sum over the slots (`lost_made`).
+use mathlib.Core.Path.{refl}
+use native.Mathlib.Omega.{arith}
 use Rattle.plan.specs.Held.{rank_lt}
 use Rattle.runs.specs.Steps.{lost_made, slots_fit}
 use Rattle.runs.proofs.rebuild_run.Goals as goal
 
-pub line-row-requires : goal.line-row-requires
-line-row-requires c = rank_lt _ c.requires.0.right _ c.requires.2 c.requires.3
+pub offset_bounds-p-p : goal.offset_bounds-p-p
+offset_bounds-p-p c = omega (arith, rank_lt _ c.requires.0.right _ c.requires.2 c.requires.3)
+
+pub bounds-p-p : goal.bounds-p-p
+bounds-p-p c = rank_lt _ c.requires.0.right _ c.requires.2 c.requires.3
 
 pub combine_put-requires : goal.combine_put-requires
 combine_put-requires c = (c.requires.0.right.solvable.data_max, c.requires.4, slots_fit _ _ _ _ c.slot_starts-starts.result c.requires.0 c.requires.1 c.slot_starts-starts.ensures)
 
 pub returns : goal.returns
-returns c = lost_made _ _ _ _ _ _ c.requires.4 _ _ _ _ c.requires.0.right c.requires.2 c.requires.3 c.slot_starts-starts.ensures c.line-row.ensures c.combine_put.ensures
+returns c = lost_made _ _ _ _ _ _ c.requires.4 _ _ _ _ c.requires.0.right c.requires.2 c.requires.3 c.slot_starts-starts.ensures refl c.combine_put.ensures
