@@ -1,9 +1,9 @@
 use mathlib.Core.Path.{◌≡◌}
-use Prim.Native.Nat.{ℕ, ◌-◌, ◌<◌, ◌≤◌}
+use Prim.Native.Nat.{ℕ, ◌<◌}
 use lib.ListN.{length}
 use Rattle.parity.specs.Matrix.{flag}
 use Rattle.group.specs.Flags.{named_below}
 use Rattle.group.proofs.flags.Given as goal
 
-abbrev pub invariant-loop-i : goal.invariant-loop-i
-invariant-loop-i l = (l.i ≤ length l.missing) × (length l.f ≡ 19) × ((u : ℕ) → u < 19 → flag l.f u ≡ named_below l.missing l.i u)
+abbrev pub invariant-loop-unit : goal.invariant-loop-unit
+invariant-loop-unit l = (length l.named ≡ 19) × ((u : ℕ) → u < 19 → flag l.named u ≡ named_below l.missing l.unit-index u)
