@@ -3,7 +3,7 @@ use Rattle.std.specs.Prelude.{◌≡◌, ℕ, Result, Ok, Err}
 use Rattle.std.specs.Result.{IsErrAnd}
 use Rattle.std.proofs.Common.{ap, ◌∙◌, arith}
 use Rattle.lists.specs.declared.Refusal.{Refusal}
-use Rattle.lists.specs.declared.Refusal.TheVariants.{Layout, ImageLength, Record, Outside, BufferLength, FailedAlready, Dud, TooManyMissing, BadCatalogue, Full, NotThere, WrongLine, BadTrace, BadEvent, BadPlan, NotRepaired, UnknownEdition}
+use Rattle.lists.specs.declared.Refusal.TheVariants.{Layout, ImageLength, Record, Outside, BufferLength, FailedAlready, Dud, TooManyMissing, BadCatalogue, Full, NotThere, WrongLine, BadTrace, WrongCount, BadPlan, NotRepaired, UnknownEdition}
 use Rattle.lists.specs.Numbered.{refusal_number, answer_number}
 
 -- no refusal has the number 0
@@ -21,7 +21,7 @@ refused Full h = omega (arith, h)
 refused NotThere h = omega (arith, h)
 refused WrongLine h = omega (arith, h)
 refused BadTrace h = omega (arith, h)
-refused BadEvent h = omega (arith, h)
+refused WrongCount h = omega (arith, h)
 refused BadPlan h = omega (arith, h)
 refused NotRepaired h = omega (arith, h)
 refused UnknownEdition h = omega (arith, h)

@@ -1,7 +1,7 @@
 -- The numbers by which the documents and C know the refusals.
 use Rattle.std.specs.Prelude.{ℕ, Result, Ok, Err}
 use Rattle.lists.specs.declared.Refusal.{Refusal}
-use Rattle.lists.specs.declared.Refusal.TheVariants.{Layout, ImageLength, Record, Outside, BufferLength, FailedAlready, Dud, TooManyMissing, BadCatalogue, Full, NotThere, WrongLine, BadTrace, BadEvent, BadPlan, NotRepaired, UnknownEdition}
+use Rattle.lists.specs.declared.Refusal.TheVariants.{Layout, ImageLength, Record, Outside, BufferLength, FailedAlready, Dud, TooManyMissing, BadCatalogue, Full, NotThere, WrongLine, BadTrace, WrongCount, BadPlan, NotRepaired, UnknownEdition}
 
 abbrev pub refusal_number : Refusal → ℕ
 refusal_number Layout = 1
@@ -17,7 +17,7 @@ refusal_number Full = 10
 refusal_number NotThere = 11
 refusal_number WrongLine = 12
 refusal_number BadTrace = 13
-refusal_number BadEvent = 14
+refusal_number WrongCount = 14
 refusal_number BadPlan = 15
 refusal_number NotRepaired = 16
 refusal_number UnknownEdition = 17

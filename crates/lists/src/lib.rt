@@ -35,10 +35,10 @@ pub enum Refusal {
     NotThere,
     // a line of a text is wrong
     WrongLine,
-    // the first line of a trace, or its pool
+    // a malformed line of a trace, or a pool too large for a replay
     BadTrace,
-    // a line of a trace is no event
-    BadEvent,
+    // the record's count of missing units is not the true one
+    WrongCount,
     // the proposed plan is not accepted
     BadPlan,
     // not all that failed is repaired
@@ -65,7 +65,7 @@ impl From<Refusal> for u64 {
             Refusal::NotThere => 11,
             Refusal::WrongLine => 12,
             Refusal::BadTrace => 13,
-            Refusal::BadEvent => 14,
+            Refusal::WrongCount => 14,
             Refusal::BadPlan => 15,
             Refusal::NotRepaired => 16,
             Refusal::UnknownEdition => 17,

@@ -17,16 +17,6 @@ pub struct PanelCounts {
     pub repaired: u64,
 }
 
-// What C is handed: the refusal's number, 0 where there is none, and the panel; zeros where refused.
-#[repr(C)]
-#[derive(Clone, Copy)]
-pub struct Counts {
-    pub refusal: u64,
-    pub waiting: u64,
-    pub failed: u64,
-    pub repaired: u64,
-}
-
 // What the record says, with no walk over the pool. The image is lent for its length.
 pub fn panel(y: Layout, r: Record, image: &[u8]) -> Result<PanelCounts, Refusal>
     ensures { let shown = panel_of result in Panels y r image.now (answer_number result) shown.waiting shown.failed shown.repaired }
@@ -48,6 +38,6 @@ pub fn audit(y: Layout, r: Record, image: &[u8]) -> Result<(), Refusal>
     if r.waiting == fresh {
         Ok(())
     } else {
-        Err(Refusal::BadEvent)
+        Err(Refusal::WrongCount)
     }
 }

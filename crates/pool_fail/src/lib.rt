@@ -9,14 +9,6 @@ use homes::Record;
 use lists::Refusal;
 use numbers::Layout;
 
-// What C is handed: the refusal's number, 0 where there is none, and the record, as it was where refused.
-#[repr(C)]
-#[derive(Clone, Copy)]
-pub struct Failed {
-    pub refusal: u64,
-    pub rec: Record,
-}
-
 // The record with one entry more, and the count raised by the contents whose home was on the
 // target. The image is lent for its length.
 pub fn fail(y: Layout, r: Record, image: &[u8], target: u64) -> Result<Record, Refusal>

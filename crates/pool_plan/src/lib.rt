@@ -14,15 +14,6 @@ use lists::Refusal;
 use numbers::Layout;
 use pool_repair::Mended;
 
-// What C is handed of a drawn plan: the refusal's number, 0 where there is none, and how many numbers of the buffer the plan takes, from the first on; 0
-// where refused.
-#[repr(C)]
-#[derive(Clone, Copy)]
-pub struct Drawn {
-    pub refusal: u64,
-    pub length: u64,
-}
-
 // What every call of the pool tests, of an image of `len` bytes, and then that the plan is accepted.
 fn check_accepted(y: Layout, r: Record, len: usize, plan: &[u64]) -> Result<(), Refusal>
     ensures { answer_number result ≡ plan_refusal y r len plan.now }

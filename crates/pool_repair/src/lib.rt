@@ -24,15 +24,6 @@ pub struct Mended {
     pub rec: Record,
 }
 
-// What C is handed: the refusal's number, 0 where there is none, with no content stored and the record as it was where refused.
-#[repr(C)]
-#[derive(Clone, Copy)]
-pub struct Repaired {
-    pub refusal: u64,
-    pub count: u64,
-    pub rec: Record,
-}
-
 // Stores the missing contents of group g, which the survey is at, at their homes under the whole list.
 fn mend_group(w: Survey, y: Layout, s: Shape, r: Record, g: u64, image: &mut [u8])
     requires { InHand y s r g w × (length image.old ≡ image_length y) }

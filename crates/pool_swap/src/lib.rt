@@ -13,14 +13,6 @@ use homes::Record;
 use lists::Refusal;
 use numbers::Layout;
 
-// What C is handed: the refusal's number, 0 where there is none, and the record, as it was where refused.
-#[repr(C)]
-#[derive(Clone, Copy)]
-pub struct Swapped {
-    pub refusal: u64,
-    pub rec: Record,
-}
-
 // What every call tests first, then the target: it is one, it is in the list, and all that failed are repaired.
 fn check_swap(y: Layout, r: Record, len: usize, target: u64) -> Result<(), Refusal>
     ensures { answer_number result ≡ swap_refusal y r len target }
