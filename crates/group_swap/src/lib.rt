@@ -8,17 +8,7 @@ ghost use Rattle.runs.specs.Run.{run_set};
 ghost use Rattle.runs.specs.Held.{run_of};
 ghost use Rattle.group_swap.specs.Taken.{units_copied, units_moved, RoomsAre, Movable};
 
-// The `len` bytes of a unit that is on: from where it begins in `src` to where it is to begin in `out`.
-fn copy_unit(on: bool, from: usize, to: usize, len: usize, src: &[u8], out: &mut [u8])
-    requires { on ≡ true → (from + len ≤ length src.now) × (to + len ≤ length out.old) }
-    ensures { out.new ≡ pick on (run_set to len (run_of src.now from) out.old) out.old }
-{
-    if on {
-        runs::put_run(out, to, src, from, len);
-    }
-}
-
-// m units, one after another.
+// The `len` bytes of each of m units that is on, one unit after another: from where it begins in `src` to where it is to begin in `out`.
 fn copy_units(
     on: [bool; 19],
     from: [usize; 19],
@@ -32,23 +22,18 @@ fn copy_units(
     ensures { out.new ≡ units_copied on from to len src.now m out.old }
 {
     for c in 0..m {
-        copy_unit(on[c], from[c], to[c], len, src, out);
+        if on[c] {
+            runs::put_run(out, to[c], src, from[c], len);
+        }
     }
 }
 
-// Which contents move, and where in the scratch each of them is kept.
+// Which contents move, and where in the scratch each of them is kept. Two arrays and no Option, since `copy_units` takes flags and places apart: the
+// places are the rooms in one call and the homes in the other.
 #[derive(Clone, Copy)]
 pub struct Rooms {
     pub moves: [bool; 19],
     pub at: [usize; 19],
-}
-
-// The room after one that is taken or not.
-fn next_room(room: usize, taken: bool) -> usize
-    requires { room ≤ 77824 }
-    ensures { result ≡ room + bit taken * 4096 }
-{
-    if taken { room + 4096 } else { room }
 }
 
 // A room of 4,096 bytes, the longest unit, for each of m contents that begins elsewhere afterwards.
@@ -63,7 +48,7 @@ fn rooms_of(from: [usize; 19], to: [usize; 19], m: usize) -> Rooms
         let taken = from[c] != to[c];
         moves[c] = taken;
         at[c] = room;
-        room = next_room(room, taken);
+        room += usize::from(taken) * 4096;
     }
     Rooms { moves, at }
 }
@@ -81,8 +66,6 @@ pub fn move_units(
     ensures { image.new ≡ units_moved from to len m image.old }
 {
     let rooms = rooms_of(from, to, m);
-    let moves = rooms.moves;
-    let at = rooms.at;
-    copy_units(moves, from, at, m, len, image, scratch);
-    copy_units(moves, at, to, m, len, scratch, image);
+    copy_units(rooms.moves, from, rooms.at, m, len, image, scratch);
+    copy_units(rooms.moves, rooms.at, to, m, len, scratch, image);
 }
