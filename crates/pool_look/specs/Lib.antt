@@ -1,2 +1,3 @@
-pub mod Shown
 pub mod Looks
+pub mod Parts
+pub mod Shown

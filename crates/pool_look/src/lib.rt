@@ -2,13 +2,16 @@
 #![tactic(auto)]
 
 ghost use Rattle.std.specs.Prelude.{◌≡◌, length, ◌<◌};
+ghost use Rattle.lists.specs.Numbered.{answer_number};
 ghost use Rattle.numbers.specs.Layouts.{all_groups};
 ghost use Rattle.pool.specs.Asked.{Sound};
 ghost use Rattle.pool.specs.Calls.{Prepares, Shows};
 ghost use Rattle.survey.specs.Surveyed.{Surveyed};
+ghost use Rattle.pool_look.specs.Parts.{shown_of, lent_of};
 ghost use Rattle.pool_look.specs.Shown.{shown_at};
 
 use homes::Record;
+use lists::Refusal;
 use numbers::Layout;
 use plan::Plan;
 
@@ -32,25 +35,29 @@ pub fn prepare(
     group: u64,
     content: u64,
     scratch: &mut [u8],
-) -> u64
-    ensures { Prepares y r image.now (length scratch.old) group content result scratch.new }
+) -> Result<(), Refusal>
+    ensures { Prepares y r image.now (length scratch.old) group content (answer_number result) scratch.new }
 {
-    let refusal = checks::look_refusal(y, r, image.len(), scratch.len(), group, content);
+    let answer = checks::check_look(y, r, image.len(), scratch.len(), group, content);
     lists::clear(scratch);
-    if refusal != 0 {
-        return refusal;
-    }
+    answer?;
     let plan = plan_at(y, r, image.len(), group);
-    let missing = plan.missing;
     let c = content as usize;
-    if missing[c] {
+    if plan.missing[c] {
         runs::read_run(plan, image, c, 0, scratch, 0, scratch.len());
     }
-    0
+    Ok(())
 }
 
-// Where the second step finds the unit: in the scratch where it is missing, else in the image. A
-// refused look has an empty part.
+// Where the second step finds the unit: in the scratch where it is missing, else in the image.
+#[derive(Clone, Copy)]
+pub struct Part {
+    pub missing: bool,
+    pub begins: usize,
+    pub length: usize,
+}
+
+// What C is handed: the refusal's number, 0 where there is none, and the part; a refused look has an empty one.
 #[repr(C)]
 #[derive(Clone, Copy)]
 pub struct Shown {
@@ -60,43 +67,57 @@ pub struct Shown {
     pub length: usize,
 }
 
-// The second step for callers who take no reference back; `image` and `scratch` are their lengths.
-pub fn locate(y: Layout, r: Record, image: usize, scratch: usize, group: u64, content: u64) -> Shown
-    ensures { result ≡ shown_at y r image scratch group content }
-{
-    let refusal = checks::look_refusal(y, r, image, scratch, group, content);
-    if refusal != 0 {
-        return Shown {
-            refusal,
-            missing: false,
-            begins: 0,
-            length: 0,
-        };
-    }
-    let plan = plan_at(y, r, image, group);
-    let missing = plan.missing;
-    let at = plan.at;
-    let length = plan.u;
-    let c = content as usize;
-    if missing[c] {
-        return Shown {
-            refusal: 0,
-            missing: true,
-            begins: 0,
-            length,
-        };
-    }
-    let begins = at[c];
-    Shown {
-        refusal: 0,
-        missing: false,
-        begins,
-        length,
+impl From<Result<Part, Refusal>> for Shown {
+    ghost from_gives = { λ answer shown. shown ≡ shown_of answer };
+
+    fn from(answer: Result<Part, Refusal>) -> Shown {
+        match answer {
+            Ok(part) => Shown {
+                refusal: 0,
+                missing: part.missing,
+                begins: part.begins,
+                length: part.length,
+            },
+            Err(refusal) => Shown {
+                refusal: u64::from(refusal),
+                missing: false,
+                begins: 0,
+                length: 0,
+            },
+        }
     }
 }
 
-// Shows the unit: a part of the image, or the scratch where the content is missing; nothing where
-// refused. The refusal number goes into the lent answer.
+// The second step for callers who take no reference back; `image` and `scratch` are their lengths.
+pub fn locate(
+    y: Layout,
+    r: Record,
+    image: usize,
+    scratch: usize,
+    group: u64,
+    content: u64,
+) -> Result<Part, Refusal>
+    ensures { shown_of result ≡ shown_at y r image scratch group content }
+{
+    checks::check_look(y, r, image, scratch, group, content)?;
+    let plan = plan_at(y, r, image, group);
+    let c = content as usize;
+    let length = plan.u;
+    if plan.missing[c] {
+        return Ok(Part {
+            missing: true,
+            begins: 0,
+            length,
+        });
+    }
+    Ok(Part {
+        missing: false,
+        begins: plan.at[c],
+        length,
+    })
+}
+
+// Shows the unit: a part of the image, or the scratch where the content is missing.
 pub fn show<'a>(
     y: Layout,
     r: Record,
@@ -104,16 +125,12 @@ pub fn show<'a>(
     scratch: &'a [u8],
     group: u64,
     content: u64,
-    answer: &mut u64,
-) -> &'a [u8]
-    ensures { Shows y r image.now scratch.now group content answer.new result.now }
+) -> Result<&'a [u8], Refusal>
+    ensures { Shows y r image.now scratch.now group content (answer_number result) (lent_of result) }
 {
-    let x = locate(y, r, image.len(), scratch.len(), group, content);
-    *answer = x.refusal;
-    if x.missing {
-        return scratch;
+    let part = locate(y, r, image.len(), scratch.len(), group, content)?;
+    if part.missing {
+        return Ok(scratch);
     }
-    let from = x.begins;
-    let end = from + x.length;
-    &image[from..end]
+    Ok(&image[part.begins..part.begins + part.length])
 }

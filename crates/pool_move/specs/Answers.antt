@@ -1,11 +1,15 @@
 -- What the call answers, by the tests that it makes.
-use Rattle.std.specs.Prelude.{◌≡◌, refl, Bool, true, false, List, [], ◌∷◌, ℕ, eqb, leb, length}
-use Rattle.std.proofs.Common.{sym, ap, ◌∙◌, arith, eqb-true}
+use Rattle.std.specs.Prelude.{◌≡◌, refl, Bool, true, false, List, [], ◌∷◌, ℕ, eqb, leb, length, Result, Ok, Err, is_err}
+use Rattle.std.proofs.Common.{sym, ap, ◌∙◌, eq-eqb, ne_eqb}
+use Rattle.lists.specs.Pick.{equal_or_not}
 use Rattle.lists.specs.Tabulate.{zeros}
+use Rattle.lists.specs.declared.Refusal.{Refusal}
+use Rattle.lists.specs.Numbered.{answer_number}
+use Rattle.lists.proofs.Answering.{refused}
 use Rattle.lists.specs.Refusal.{◌or_else◌, refusal_by}
 use Rattle.numbers.specs.declared.Layout.{Layout}
-use Rattle.numbers.specs.Layouts.{all_contents, image_length}
-use Rattle.numbers.specs.Refused.{validb}
+use Rattle.numbers.specs.Layouts.{Valid, all_contents, image_length}
+use Rattle.numbers.specs.Refused.{validb, valid_true}
 use Rattle.numbers.specs.Editions.{other_edition}
 use Rattle.homes.specs.declared.Record.{Record}
 use Rattle.homes.specs.Records.{record_good}
@@ -29,36 +33,25 @@ unfolding repair_refusal move_refusal
 one-length y R old new n e same =
     e ∙ twice (validb y) (eqb old (image_length y)) (record_good y R) (leb R.waiting (all_contents y)) ∙ ap (λ (m : ℕ). move_refusal y R old m) (sym same)
 
--- of two lengths one is wrong: 1 where the layout is bad, else 2
-by_layout : (a b b' c d : Bool) → (b ≡ true → b' ≡ true → ⊥) → (n : ℕ) → n ≡ refusal_by ((a, 1) ∷ (b, 2) ∷ (c, 3) ∷ (d, 3) ∷ [])
-    → ((n ≡ 1 → 1 ≡ refusal_by ((a, 1) ∷ (b, 2) ∷ (b', 2) ∷ (c, 3) ∷ (d, 3) ∷ []))
-    × ((n ≡ 1 → ⊥) → 2 ≡ refusal_by ((a, 1) ∷ (b, 2) ∷ (b', 2) ∷ (c, 3) ∷ (d, 3) ∷ [])))
-unfolding refusal_by ◌or_else◌
-by_layout false b b' c d differ n e = (λ h. refl, λ never. absurd (never e))
-by_layout true false b' c d differ n e = (λ h. absurd (omega (arith, h, e)), λ never. refl)
-by_layout true true false c d differ n e = (λ h. absurd (late c d (sym h ∙ e)), λ never. refl)
-  where
-    late : (c d : Bool) → 1 ≡ refusal_by ((true, 1) ∷ (true, 2) ∷ (c, 3) ∷ (d, 3) ∷ []) → ⊥
-    late false d q = absurd (omega (arith, q))
-    late true false q = absurd (omega (arith, q))
-    late true true q = absurd (omega (arith, q))
-by_layout true true true c d differ n e = absurd (differ refl refl)
-
-module _ (y : Layout) (R : Record) (old new n : ℕ) (e : n ≡ repair_refusal y R old) (differ : new ≡ old → ⊥) where
-  both_right : eqb old (image_length y) ≡ true → eqb new (image_length y) ≡ true → ⊥
-  both_right a b = differ (eqb-true new (image_length y) b ∙ sym (eqb-true old (image_length y) a))
-
-  by_number : ((n ≡ 1 → 1 ≡ move_refusal y R old new) × ((n ≡ 1 → ⊥) → 2 ≡ move_refusal y R old new))
-  unfolding repair_refusal move_refusal
-  by_number = by_layout (validb y) (eqb old (image_length y)) (eqb new (image_length y)) (record_good y R) (leb R.waiting (all_contents y)) both_right n e
-
-  pub bad-layout : n ≡ 1 → 1 ≡ move_refusal y R old new
-  bad-layout = by_number.0
-
-  pub two_lengths : (n ≡ 1 → ⊥) → 2 ≡ move_refusal y R old new
-  two_lengths = by_number.1
+-- of two lengths one is wrong
+pub two_lengths : (y : Layout) (R : Record) (old new : ℕ) → Valid y → (new ≡ old → ⊥) → 2 ≡ move_refusal y R old new
+unfolding move_refusal refusal_by ◌or_else◌
+two_lengths y R old new v differ =
+    equal_or_not old (image_length y)
+    (λ (e : old ≡ image_length y).
+    sym (simp (valid_true y v, eq-eqb old (image_length y) e, ne_eqb new (image_length y) (λ (q : new ≡ image_length y). differ (q ∙ sym e)))))
+    (λ (ne : old ≡ image_length y → ⊥). sym (simp (valid_true y v, ne_eqb old (image_length y) ne)))
 
 -- ---- the call
+
+-- an answer is a refusal, or none
+pub is_refused : (answer : Result (Unit {0}) Refusal) → is_err answer ≡ true → answer_number answer ≡ 0 → ⊥
+is_refused (Ok x) e = let h : false ≡ true = e in cc
+is_refused (Err e) h = refused e
+
+pub is_granted : (answer : Result (Unit {0}) Refusal) → is_err answer ≡ false → answer_number answer ≡ 0
+is_granted (Ok x) e = refl
+is_granted (Err x) e = let h : true ≡ false = e in cc
 
 module _ (y : Layout) (R : Record) (img : List ℕ) (room n : ℕ) (e : n ≡ move_refusal y R (length img) room) where
   pub moves_asked : n ≡ 0 → Sound y R (length img) × (room ≡ image_length y)

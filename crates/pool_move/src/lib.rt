@@ -3,6 +3,7 @@
 #![tactic(auto)]
 
 ghost use Rattle.std.specs.Prelude.{◌≡◌, length};
+ghost use Rattle.lists.specs.Numbered.{answer_number};
 ghost use Rattle.numbers.specs.Layouts.{image_length};
 ghost use Rattle.numbers.specs.Editions.{other_edition};
 ghost use Rattle.pool.specs.Asked.{Sound};
@@ -11,22 +12,20 @@ ghost use Rattle.moving.specs.Moving.{shown_file, move_refusal, Moves};
 ghost use Rattle.pool_move.specs.Groups.{Ready, GroupLaid};
 
 use homes::Record;
+use lists::Refusal;
 use numbers::{Layout, Shape};
 use plan::Plan;
 use survey::Survey;
 
 // Images of one length are both right or both wrong; of two lengths, one is wrong.
-fn move_refusal(y: Layout, r: Record, old: usize, new: usize) -> u64
-    ensures { result ≡ move_refusal y r old new }
+fn check_move(y: Layout, r: Record, old: usize, new: usize) -> Result<(), Refusal>
+    ensures { answer_number result ≡ move_refusal y r old new }
 {
-    let refusal = checks::pool_refusal(y, r, old);
-    if new == old {
-        return refusal;
+    if new != old {
+        numbers::check(y)?;
+        return Err(Refusal::ImageLength);
     }
-    if refusal == 1 {
-        return 1;
-    }
-    2
+    checks::check_pool(y, r, old)
 }
 
 // Group g by its plan in the old image, where the survey of the new pool, of layout z, is at it too: every unit of the group is stored, contents and
@@ -35,10 +34,8 @@ fn move_group(p: Plan, there: Survey, z: Layout, s: Shape, g: u64, old: &[u8], n
     requires { Ready z s g p there (length old.now) (length new.old) }
     ensures { GroupLaid z g p old.now new.old new.new }
 {
-    let q = there.plan;
-    group_move::move_contents(p, q, old, new);
-    let in_hand = there.to;
-    let to = survey::tile_to(z, there.tile, in_hand, g / s.c);
+    group_move::move_contents(p, there.plan, old, new);
+    let to = survey::tile_to(z, there.tile, there.to, g / s.c);
     let spares = survey::spare_starts(z, s, &to, g);
     group_move::clear_units(spares, z.k as usize, z.u as usize, new);
 }
@@ -62,21 +59,20 @@ fn move_groups(y: Layout, r: Record, z: Layout, old: &[u8], new: &mut [u8])
     for g in 0..groups {
         here = survey::next(here, y, s, r, g);
         there = survey::next(there, z, s, none, g);
-        let p = here.plan;
-        move_group(p, there, z, s, g, old, new);
+        move_group(here.plan, there, z, s, g, old, new);
     }
 }
 
 // Fills the new image with the file that reads of the old pool show, in the other edition, under an empty list; with zeros where refused.
-pub fn move_edition(y: Layout, r: Record, old: &[u8], new: &mut [u8]) -> u64
-    ensures { Moves y r old.now (length new.old) result new.new }
+pub fn move_edition(y: Layout, r: Record, old: &[u8], new: &mut [u8]) -> Result<(), Refusal>
+    ensures { Moves y r old.now (length new.old) (answer_number result) new.new }
 {
-    let refusal = move_refusal(y, r, old.len(), new.len());
-    if refusal != 0 {
+    let answer = check_move(y, r, old.len(), new.len());
+    if answer.is_err() {
         lists::clear(new);
-        return refusal;
+        return answer;
     }
     let z = numbers::other_edition(y);
     move_groups(y, r, z, old, new);
-    0
+    Ok(())
 }

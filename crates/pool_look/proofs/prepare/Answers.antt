@@ -1,30 +1,38 @@
 -- `pool_look::prepare` meets its contract: the scratch is cleared first, then holds the rebuilt unit where the content is missing.
-use mathlib.Core.Path.{sym, ap, ◌∙◌}
-use native.Mathlib.Omega.{arith}
-use lib.ListN.{length}
+use Rattle.std.proofs.Common.{◌≡◌, ℕ, Result, length, sym, ap, ◌∙◌, arith}
+use Rattle.std.proofs.lemmas.Result.{err_from_is_err_and}
+use Rattle.lists.specs.declared.Refusal.{Refusal}
+use Rattle.lists.specs.Numbered.{answer_number}
 use Rattle.lists.specs.Refusal.{grant_no, grant_yes}
 use Rattle.lists.specs.Tabulate.{length-tabulate}
+use Rattle.lists.proofs.Answering.{refused}
 use Rattle.pool.specs.Looking.{look_scratch}
 use Rattle.pool.specs.Asked.{look_asked}
 use Rattle.pool_look.specs.Looks.{content-small, content_in, plan_fits, rebuilt_scratch, blank_scratch}
 use Rattle.pool_look.proofs.prepare.Goals as goal
 
-pub returns-then-refusal-ne0 : goal.returns-then-refusal-ne0
+-- the number of an answer, once it is seen what that is
+seen : {n : ℕ} {answer is : Result (Unit {0}) Refusal} → answer ≡ is → answer_number answer ≡ n → answer_number is ≡ n
+seen w e = sym (ap (λ (x : Result (Unit {0}) Refusal). answer_number x) w) ∙ e
+
+pub returns-in_err-answer : goal.returns-in_err-answer
 unfolding look_scratch
-returns-then-refusal-ne0 c = let e = c.look_refusal-refusal.ensures in
-    record { answer = e; bytes = c.clear.ensures ∙ sym (grant_no _ _ _ (λ z. c.if-refusal-ne0.true (e ∙ z))) }
+returns-in_err-answer c =
+    let p = err_from_is_err_and c.from_residual.result c.from_residual.ensures.1 in
+    let e = seen c.in_err-answer.was c.check_look-answer.ensures in
+    rw (p.1, p.2) (record { answer = e; bytes = c.clear.ensures ∙ sym (grant_no _ _ _ (λ z. refused _ (e ∙ z))) })
 
 pub plan_at-plan-requires : goal.plan_at-plan-requires
-plan_at-plan-requires c = (
-  (look_asked _ _ _ _ _ _ (sym c.look_refusal-refusal.ensures ∙ c.if-refusal-ne0.false)).sound,
-  (look_asked _ _ _ _ _ _ (sym c.look_refusal-refusal.ensures ∙ c.if-refusal-ne0.false)).group_lt,
-)
+plan_at-plan-requires c =
+    let a = look_asked _ _ _ _ _ _ (sym (seen c.in_ok-answer.was c.check_look-answer.ensures)) in
+    (a.sound, a.group_lt)
 
-pub bounds-missing-c : goal.bounds-missing-c
-bounds-missing-c c = content-small _ _ _ _ _ _ (look_asked _ _ _ _ _ _ (sym c.look_refusal-refusal.ensures ∙ c.if-refusal-ne0.false))
+pub bounds-plan-c : goal.bounds-plan-c
+bounds-plan-c c = content-small _ _ _ _ _ _ (look_asked _ _ _ _ _ _ (sym (seen c.in_ok-answer.was c.check_look-answer.ensures)))
 
 pub read_run-requires : goal.read_run-requires
-read_run-requires c = let a = look_asked _ _ _ _ _ _ (sym c.look_refusal-refusal.ensures ∙ c.if-refusal-ne0.false) in
+read_run-requires c =
+    let a = look_asked _ _ _ _ _ _ (sym (seen c.in_ok-answer.was c.check_look-answer.ensures)) in
     let s = c.plan_at-plan.ensures in (
       plan_fits _ _ _ _ _ _ a _ s,
       content_in _ _ _ _ _ _ a _ s,
@@ -32,24 +40,25 @@ read_run-requires c = let a = look_asked _ _ _ _ _ _ (sym c.look_refusal-refusal
       omega arith,
     )
 
-pub returns-then-missing-c : goal.returns-then-missing-c
+pub returns-then-plan-c : goal.returns-then-plan-c
 unfolding look_scratch
-returns-then-missing-c c = let e = c.look_refusal-refusal.ensures in
+returns-then-plan-c c =
+    let none = seen c.in_ok-answer.was c.check_look-answer.ensures in
     record {
-      answer = sym c.if-refusal-ne0.false ∙ e;
+      answer = none;
       bytes =
-          rebuilt_scratch _ _ _ _ _ _ (look_asked _ _ _ _ _ _ (sym c.look_refusal-refusal.ensures ∙ c.if-refusal-ne0.false)) _ c.plan_at-plan.ensures _ _ c.clear.ensures c.if-missing-c.true
-          c.read_run.ensures
-          ∙ sym (grant_yes _ _ _ (sym e ∙ c.if-refusal-ne0.false));
+          rebuilt_scratch _ _ _ _ _ _ (look_asked _ _ _ _ _ _ (sym none)) _ c.plan_at-plan.ensures _ _ c.clear.ensures c.if-plan-c.true c.read_run.ensures
+          ∙ sym (grant_yes _ _ _ (sym none));
     }
 
-pub returns-else-missing-c : goal.returns-else-missing-c
+pub returns-else-plan-c : goal.returns-else-plan-c
 unfolding look_scratch
-returns-else-missing-c c = let e = c.look_refusal-refusal.ensures in
+returns-else-plan-c c =
+    let none = seen c.in_ok-answer.was c.check_look-answer.ensures in
     record {
-      answer = sym c.if-refusal-ne0.false ∙ e;
+      answer = none;
       bytes =
           c.clear.ensures
-          ∙ blank_scratch _ _ _ _ _ _ (look_asked _ _ _ _ _ _ (sym c.look_refusal-refusal.ensures ∙ c.if-refusal-ne0.false)) _ c.plan_at-plan.ensures c.if-missing-c.false
-          ∙ sym (grant_yes _ _ _ (sym e ∙ c.if-refusal-ne0.false));
+          ∙ blank_scratch _ _ _ _ _ _ (look_asked _ _ _ _ _ _ (sym none)) _ c.plan_at-plan.ensures c.if-plan-c.false
+          ∙ sym (grant_yes _ _ _ (sym none));
     }
