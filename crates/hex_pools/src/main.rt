@@ -11,9 +11,7 @@ const ONES: u64 = 18446744073709551615;
 
 // A line buffer before a call, to see that all of it is written.
 fn blur(line: &mut [u8]) {
-    for i in 0..line.len() {
-        line[i] = 170;
-    }
+    line.fill(170);
 }
 
 fn print_pool(rt: &impl Print, y: Layout) {
@@ -40,7 +38,7 @@ fn line_length(u: u64) -> usize
 
 fn show_line(rt: &impl Print, y: Layout, image: &[u8], target: u64, frame: u64, line: &mut [u8]) {
     blur(line);
-    hex_line(y, image, target, frame, line);
+    let _ = hex_line(y, image, target, frame, line);
     text(rt, line);
 }
 
@@ -58,8 +56,7 @@ fn show_target(
 }
 
 fn show_targets(rt: &impl Print, y: Layout, image: &[u8], frames: u64, line: &mut [u8]) {
-    let targets = y.p;
-    for target in 0..targets {
+    for target in 0..y.p {
         show_target(rt, y, image, target, frames, line);
     }
 }
@@ -93,20 +90,19 @@ fn drawn_layout(seed: &mut u64) -> Layout {
     let cookie = trial::high(seed);
     let edition = 1 + draw(seed, 2);
     Layout {
-        n: n,
-        k: k,
-        p: p,
-        u: u,
-        t: t,
-        cookie: cookie,
-        edition: edition,
+        n,
+        k,
+        p,
+        u,
+        t,
+        cookie,
+        edition,
     }
 }
 
 fn drawn_pool(rt: &impl Print, seed: &mut u64, space: &mut [u8]) {
     let y = drawn_layout(seed);
-    let m = layout::measure(y);
-    let numbers = m.numbers;
+    let numbers = layout::measure(y).unwrap_or_default();
     let size = numbers.image as usize;
     if space.len() < size {
         return;
@@ -116,15 +112,15 @@ fn drawn_pool(rt: &impl Print, seed: &mut u64, space: &mut [u8]) {
 }
 
 fn drawn_pools(rt: &impl Print, seed: &mut u64, space: &mut [u8]) {
-    for i in 0..24 {
+    for _ in 0..24 {
         drawn_pool(rt, seed, space);
     }
 }
 
 fn show_ten(rt: &impl Print, y: Layout, image: &[u8], line: &mut [u8]) {
     let frames: [u64; 10] = [0, 15, 16, 255, 256, 4095, 4096, 48879, 65534, 65535];
-    for i in 0..10 {
-        show_line(rt, y, image, 0, frames[i], line);
+    for frame in frames {
+        show_line(rt, y, image, 0, frame, line);
     }
 }
 
@@ -147,17 +143,16 @@ fn long_pool(rt: &impl Print, seed: &mut u64, image: &mut [u8]) {
 
 fn sum_line(rt: &impl Print, y: Layout, image: &[u8], target: u64, line: &mut [u8]) {
     blur(line);
-    let refusal = hex_line(y, image, target, 0, line);
+    let answer = hex_line(y, image, target, 0, line);
     text(rt, b"sum");
     number(rt, target);
-    number(rt, refusal);
+    number(rt, lists::answer_number(answer));
     number(rt, trial::checksum(line));
     newline(rt);
 }
 
 fn sum_lines(rt: &impl Print, y: Layout, image: &[u8], line: &mut [u8]) {
-    let targets = y.p;
-    for target in 0..targets {
+    for target in 0..y.p {
         sum_line(rt, y, image, target, line);
     }
 }
@@ -167,8 +162,8 @@ fn summed_pool(rt: &impl Print, seed: &mut u64, p: u64, u: u64, image: &mut [u8]
     let y = Layout {
         n: 1,
         k: 0,
-        p: p,
-        u: u,
+        p,
+        u,
         t: 1,
         cookie: 0,
         edition: 1,
@@ -182,8 +177,7 @@ fn summed_pool(rt: &impl Print, seed: &mut u64, p: u64, u: u64, image: &mut [u8]
 
 fn print_bytes(rt: &impl Print, bytes: [u8; 20]) {
     text(rt, b" ");
-    for i in 0..20 {
-        let byte = bytes[i];
+    for byte in bytes {
         let _ = print!(rt; "{byte:02x}");
     }
 }
@@ -194,14 +188,14 @@ fn tried_line(rt: &impl Print, y: Layout, size: usize, target: u64, frame: u64, 
 {
     let image = [0u8, 0, 65, 66, 65, 66, 67, 68];
     let mut buffer = [170u8; 20];
-    let refusal = hex_line(y, &image[..size], target, frame, &mut buffer[..len]);
+    let answer = hex_line(y, &image[..size], target, frame, &mut buffer[..len]);
     text(rt, b"line");
     number(rt, y.u);
     number(rt, size as u64);
     number(rt, target);
     number(rt, frame);
     number(rt, len as u64);
-    number(rt, refusal);
+    number(rt, lists::answer_number(answer));
     print_bytes(rt, buffer);
     newline(rt);
 }
@@ -211,10 +205,10 @@ fn three(u: u64, edition: u64) -> Layout {
         n: 1,
         k: 1,
         p: 3,
-        u: u,
+        u,
         t: 1,
         cookie: 0,
-        edition: edition,
+        edition,
     }
 }
 

@@ -2,7 +2,9 @@
 // The row is that of `morning`; its pool is 20 lines of 27 characters, so that all of it can be shown.
 #![tactic(auto)]
 
+use lists::answer_number;
 use numbers::Layout;
+use pool_text::TextRead;
 use row_trial::{no_failures, put, row, row_of};
 use trial::{answer, decimal, say_same, set_all, text};
 
@@ -14,25 +16,17 @@ fn blur(bytes: &mut [u8]) {
 }
 
 fn is_zeros(bytes: &[u8]) -> bool {
-    for i in 0..bytes.len() {
-        if bytes[i] != 0 {
-            return false;
-        }
-    }
-    true
+    bytes.iter().all(|byte| *byte == 0)
 }
 
 // Copies a piece to the place `from` of a copy, as far as there is room, and answers where the next one goes.
 fn append(piece: &[u8], copy: &mut [u8], from: usize) -> usize {
-    let mut at = from;
-    for i in 0..piece.len() {
-        if copy.len() <= at {
-            return at;
-        }
-        copy[at] = piece[i];
-        at += 1;
+    if copy.len() <= from {
+        return from;
     }
-    at
+    let count = piece.len().min(copy.len() - from);
+    copy[from..from + count].copy_from_slice(&piece[..count]);
+    from + count
 }
 
 // ---- what is said of an answer
@@ -51,7 +45,7 @@ fn say_zeros(rt: &impl Print, what: &[u8], bytes: &[u8]) {
 // Opens a letter that must be refused.
 fn refused(rt: &impl Print, what: &[u8], y: Layout, letter: &[u8], image: &mut [u8]) {
     blur(image);
-    let opened = pool_text::read_text(y, letter, image);
+    let opened = TextRead::from(pool_text::read_text(y, letter, image));
     text(rt, what);
     text(rt, b": ");
     answer(rt, opened.refusal);
@@ -64,10 +58,10 @@ fn refused(rt: &impl Print, what: &[u8], y: Layout, letter: &[u8], image: &mut [
 // Writes a letter that must be refused.
 fn unwritten(rt: &impl Print, what: &[u8], y: Layout, image: &[u8], letter: &mut [u8]) {
     blur(letter);
-    let refusal = pool_text::write_text(y, image, letter);
+    let written = pool_text::write_text(y, image, letter);
     text(rt, what);
     text(rt, b": ");
-    answer(rt, refusal);
+    answer(rt, answer_number(written));
     text(rt, b"; ");
     say_zeros(rt, b"the text", letter);
 }
@@ -177,7 +171,7 @@ fn letters_of_others(rt: &impl Print) {
     let image = [17u8; 320];
     let mut here = [0u8; 160];
     let mut small = [0u8; 380];
-    if pool_text::write_text(row_of(4, 1), &image[..80], &mut small) != 0 {
+    if pool_text::write_text(row_of(4, 1), &image[..80], &mut small).is_err() {
         return;
     }
     refused(
@@ -188,7 +182,7 @@ fn letters_of_others(rt: &impl Print) {
         &mut here,
     );
     let mut large = [0u8; 1080];
-    if pool_text::write_text(row_of(8, 2), &image, &mut large) != 0 {
+    if pool_text::write_text(row_of(8, 2), &image, &mut large).is_err() {
         return;
     }
     refused(
@@ -269,13 +263,13 @@ fn stored(image: &mut [u8]) {
 }
 
 fn there_and_back(rt: &impl Print, image: &[u8], letter: &mut [u8]) {
-    let refusal = pool_text::write_text(row(), image, letter);
+    let written = pool_text::write_text(row(), image, letter);
     text(rt, b"The row is written as text: ");
-    answer(rt, refusal);
+    answer(rt, answer_number(written));
     text(rt, b"\n");
     text(rt, letter);
     let mut back = [170u8; 160];
-    let opened = pool_text::read_text(row(), letter, &mut back);
+    let opened = TextRead::from(pool_text::read_text(row(), letter, &mut back));
     text(rt, b"It is read back: ");
     answer(rt, opened.refusal);
     text(rt, b", ");
