@@ -3,7 +3,7 @@ use Rattle.std.specs.Prelude.{◌≡◌, refl, ℕ, ◌<◌, ◌≤◌, Bool, tr
 use Rattle.std.proofs.Common.{ap, ◌∙◌, arith, lt-ltb, le-ltb, eq-eqb, ne_eqb}
 use Rattle.std.specs.Ordering.{partial_ordering_then, nat_cmp, is_some_and, is_lt}
 use Rattle.std.specs.declared.cmp.Ordering.{Ordering}
-use Rattle.std.specs.Option.{option_eq}
+use Rattle.std.specs.Option.{MatchOption}
 use Rattle.lists.specs.Pick.{pick, both, clash, below_or_not}
 use Rattle.entries.specs.declared.Wide.{Wide}
 use Rattle.entries.specs.declared.Key.{Key}
@@ -62,10 +62,11 @@ pub key_order_of : {t : Bool} (a b : Key)
     (partial_ordering_then (Some (nat_cmp a.file.first b.file.first)) (Some (nat_cmp a.file.second b.file.second)))) → t ≡ key_lt a b
 key_order_of a b e = e ∙ key_order a b
 
--- whether a cob is the one that was found
-pub found_equality : (o : Option Wide) (c : Wide) → option_eq (λ (a b : Wide). eqb a.first b.first && eqb a.second b.second) o (Some c) ≡ has_cob o c
-found_equality (Some w) c = wide_equality w c
-found_equality None c = refl
+-- whether the cob that was found is c, as `is_some_and` answers it
+pub found_equality : (o : Option Wide) (c : Wide) {t : Bool} {P : Wide → Type 0} → MatchOption o (t ≡ false) P
+    → ((w : Wide) → P w → t ≡ (eqb w.first c.first && eqb w.second c.second)) → t ≡ has_cob o c
+found_equality (Some w) c e h = h w e ∙ wide_equality w c
+found_equality None c e h = e
 
 -- ---- what the opposite of a test says of it
 

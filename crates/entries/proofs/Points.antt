@@ -25,3 +25,10 @@ pub parted : (k : Key) (w : Bool) (xs : List Entry) → rising xs ≡ true → I
 parted k w xs h i j d a b e =
     past_at k w xs h i d (omega arith)
     ∙ lt-ltb i (past_count k w xs) (omega (arith, ltb-true j (past_count k w xs) (sym (past_at k w xs h j d b) ∙ e)))
+
+abbrev pub below_key : Key → Entry → Bool
+below_key k r = past_of k false (key_of r)
+
+pub place_is : (xs : List Entry) (k : Key) (i : ℕ) → rising xs ≡ true → i ≤ length xs
+    → IsPartitionPoint (λ y. below_key k y ≡ true) (λ y. below_key k y ≡ false) xs i → i ≡ past_count k false xs
+place_is xs k i h l p = point_counts (below_key k) xs i l p

@@ -293,14 +293,15 @@ pub fn deletion(x: Look, r: Entry) -> Result<Plan, Refusal>
     if !x.sound {
         return Err(Refusal::BadCatalogue);
     }
-    if x.found != Some(r.cob) {
+    if !x.found.is_some_and(|cob| cob == r.cob) {
         return Err(Refusal::NotThere);
     }
+    let freed = blank_entry();
     Ok(Plan {
         from: x.at,
         end: x.n,
         way: Way::Down,
-        first: blank_entry(),
+        first: freed,
         total: x.n - 1,
     })
 }

@@ -1,6 +1,6 @@
 -- `entries::deletion` meets its contract: each return is the arm that its tests pick.
 use Rattle.std.specs.Prelude.{◌≡◌, true, false, ◌-◌, Result, Ok, Err}
-use Rattle.std.proofs.Common.{◌∙◌, sym, ap}
+use Rattle.std.proofs.Common.{◌∙◌, sym, ap, rules}
 use Rattle.lists.specs.declared.Refusal.{Refusal}
 use Rattle.lists.specs.declared.Refusal.TheVariants.{NotThere}
 use Rattle.entries.specs.declared.Entry.{Entry}
@@ -25,14 +25,14 @@ module _ (x : Look) (r : Entry) (s : x.sound ≡ true) where
 
 pub returns-then-not-x : goal.returns-then-not-x
 unfolding deletion_of
-returns-then-not-x c = simp c.if-not-x.true
+returns-then-not-x c = simp (off c.args.x.sound c.if-not-x.true)
 
-pub returns-then-ne : goal.returns-then-ne
-returns-then-ne c =
-    other c.args.x c.args.r c.if-not-x.false
-    (sym (found_equality c.args.x.found c.args.r.cob) ∙ off _ (sym c.ne.ensures ∙ c.if-ne.true))
+pub returns-then-not-is_some_and : goal.returns-then-not-is_some_and
+returns-then-not-is_some_and c =
+    other c.args.x c.args.r (on c.args.x.sound c.if-not-x.false)
+    (sym (found_equality c.args.x.found c.args.r.cob c.is_some_and.ensures (λ w e. search rules)) ∙ c.if-not-is_some_and.true)
 
 pub returns : goal.returns
 returns c =
-    there c.args.x c.args.r c.if-not-x.false
-    (sym (found_equality c.args.x.found c.args.r.cob) ∙ on _ (sym c.ne.ensures ∙ c.if-ne.false)) c.blank_entry.ensures
+    there c.args.x c.args.r (on c.args.x.sound c.if-not-x.false)
+    (sym (found_equality c.args.x.found c.args.r.cob c.is_some_and.ensures (λ w e. search rules)) ∙ c.if-not-is_some_and.false) c.blank_entry-freed.ensures

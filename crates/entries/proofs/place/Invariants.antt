@@ -1,0 +1,6 @@
+-- No loop: the search is the library's.
+-- One by hand looks between two places,
+-- and keeps
+-- that these are in order, within the records;
+-- it ends since there are fewer places between them
+-- after each turn.
