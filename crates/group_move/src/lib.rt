@@ -16,14 +16,11 @@ fn move_content(p: Plan, q: Plan, starts: [usize; 16], old: &[u8], new: &mut [u8
     requires { Fits p (length old.now) × Fits q (length new.old) × Apart q × Meets p q × Begins q 0 starts × (c < p.n + p.k) }
     ensures { new.new ≡ run_set (at_of q c) p.u (byte_stored p q old.now new.old c) new.old }
 {
-    let n = p.n;
-    if c < n {
-        let at = q.at;
-        runs::read_run(p, old, c, 0, new, at[c], p.u);
+    if c < p.n {
+        runs::read_run(p, old, c, 0, new, q.at[c], p.u);
         return;
     }
-    let nothing = [0u8; 1];
-    updates::put_parity(q, new, &nothing, starts, 0, q.u, c - n);
+    updates::put_parity(q, new, &[], starts, 0, q.u, c - p.n);
 }
 
 // All contents of the group, one after another: the data units come first.
@@ -31,9 +28,8 @@ pub fn move_contents(p: Plan, q: Plan, old: &[u8], new: &mut [u8])
     requires { Fits p (length old.now) × Fits q (length new.old) × Apart q × Meets p q }
     ensures { new.new ≡ contents_moved p q old.now (p.n + p.k) new.old }
 {
-    let m = p.n + p.k;
     let starts = updates::image_starts(q, new.len(), 0);
-    for c in 0..m {
+    for c in 0..p.n + p.k {
         move_content(p, q, starts, old, new, c);
     }
 }
@@ -43,7 +39,7 @@ pub fn clear_units(starts: [usize; 19], count: usize, u: usize, new: &mut [u8])
     requires { (count ≤ 19) × ((i : ℕ) → i < count → get_or starts i 0 + u ≤ length new.old) }
     ensures { new.new ≡ units_cleared starts u count new.old }
 {
-    for i in 0..count {
-        runs::clear_run(new, starts[i], u);
+    for start in &starts[..count] {
+        runs::clear_run(new, *start, u);
     }
 }

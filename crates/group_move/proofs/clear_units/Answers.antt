@@ -1,29 +1,29 @@
--- `group_move::clear_units`. The loop keeps: the first i units are zeros.
-use mathlib.Core.Path.{refl, ap, ◌∙◌}
-use native.Mathlib.Omega.{arith}
-use lib.ListN.{length}
-use Rattle.runs.specs.Run.{length-run_set}
+-- `group_move::clear_units`. The loop keeps: the units passed are zeros.
+use Rattle.std.specs.Prelude.{◌≡◌, List, ℕ, ◌<◌, length, get_or, take}
+use Rattle.std.proofs.Common.{refl, ap, ◌∙◌, arith, get_or-take, length-take}
+use Rattle.runs.specs.Held.{zero_byte}
+use Rattle.runs.specs.Run.{run_set, length-run_set}
 use Rattle.group_move.specs.MovedLaws.{cleared_none, cleared_turn, cleared_end}
 use Rattle.group_move.proofs.clear_units.Goals as goal
 
-pub loop-i-init : goal.loop-i-init
-loop-i-init c = (omega arith, refl, cleared_none _ _ _)
+-- an item of the first n of a list
+item : (l : List ℕ) (n i : ℕ) → i < length (take n l) → get_or (take n l) i 0 ≡ get_or l i 0
+item l n i h = get_or-take n l i 0 (omega (arith, h, length-take n l))
 
-pub offset_bounds-starts-i : goal.offset_bounds-starts-i
-offset_bounds-starts-i c = omega (arith, c.requires.0)
-
-pub bounds-starts-i : goal.bounds-starts-i
-bounds-starts-i c = omega (arith, c.requires.0)
+pub loop-start-init : goal.loop-start-init
+loop-start-init c = (refl, cleared_none _ _ _)
 
 pub clear_run-requires : goal.clear_run-requires
-clear_run-requires c = omega (arith, c.requires.1 c.loop-i.i c.loop-i-test.true, c.loop-i.invariant.1)
+clear_run-requires c = let i = c.loop-start.start-index in
+    let h : i < c.args.count = omega (arith, c.loop-start-test.true, length-take c.args.count c.args.starts) in
+    omega (arith, c.requires.1 i h, item c.args.starts c.args.count i c.loop-start-test.true, c.loop-start.invariant.0)
 
-pub loop-i-preserved : goal.loop-i-preserved
-loop-i-preserved c = let l = c.loop-i in
-    (omega arith, ap length c.clear_run.ensures ∙ length-run_set _ _ _ _ ∙ l.invariant.1, cleared_turn _ _ _ l.i l.new _ l.invariant.2 c.clear_run.ensures)
-
-pub shape_of-new : goal.shape_of-new
-shape_of-new c = c.loop-i.invariant.1
+pub loop-start-preserved : goal.loop-start-preserved
+loop-start-preserved c = let l = c.loop-start in (
+  ap length c.clear_run.ensures ∙ length-run_set _ _ _ _ ∙ l.invariant.0,
+  cleared_turn _ _ _ l.start-index l.new _ l.invariant.1
+      (c.clear_run.ensures ∙ ap (λ (x : ℕ). run_set x c.args.u zero_byte l.new) (item c.args.starts c.args.count l.start-index c.loop-start-test.true)),
+)
 
 pub returns : goal.returns
-returns c = cleared_end _ _ _ _ _ _ c.loop-i.invariant.2 (omega arith)
+returns c = cleared_end _ _ _ _ _ _ c.loop-start.invariant.1 (omega (arith, c.loop-start-test.false, length-take c.args.count c.args.starts, c.loop-start.auto.start-index-end))

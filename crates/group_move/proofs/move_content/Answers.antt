@@ -6,18 +6,15 @@ use Rattle.group_move.specs.MovedLaws.{unit_in_lem, data_made, parity_made}
 use Rattle.group_move.proofs.move_content.Goals as goal
 
 pub read_run-requires : goal.read_run-requires
-read_run-requires c = let a = c.before.before.before.before.before in
-    (a.requires.0, a.requires.5, omega arith, unit_in_lem _ _ _ a.requires.1 a.requires.3 _ a.requires.5)
+read_run-requires c = let a = c.requires in
+    (a.0, a.5, omega arith, unit_in_lem _ _ _ a.1 a.3 _ a.5)
 
-pub returns-then-c-n : goal.returns-then-c-n
-returns-then-c-n c = let a = c.before.before.before.before.before.before.before.before in
-    data_made _ _ _ a.requires.1 a.requires.3 _ a.args.new.now _ refl _ a.requires.5 c.if-c-n.true c.read_run.ensures
+pub returns-then-c-p : goal.returns-then-c-p
+returns-then-c-p c = let a = c.requires in data_made _ _ _ a.1 a.3 _ c.args.new.now _ refl _ a.5 c.if-c-p.true c.read_run.ensures
 
 pub put_parity-requires : goal.put_parity-requires
-put_parity-requires c = let a = c.before.before.before.before.before in
-    let m = a.requires.3 in
-    (a.requires.1, a.requires.2, omega arith, omega (arith, a.requires.5, c.if-c-n.false, m.k_is), a.requires.4, inl m.whole)
+put_parity-requires c = let a = c.requires in
+    (a.1, a.2, omega arith, omega (arith, a.5, c.if-c-p.false, a.3.k_is), a.4, inl a.3.whole)
 
 pub returns : goal.returns
-returns c = let a = c.before.before.before.before.before.before.before.before in
-    parity_made _ _ _ a.requires.1 a.requires.3 _ a.args.new.now _ refl _ a.requires.5 _ c.if-c-n.false c.put_parity.ensures
+returns c = let a = c.requires in parity_made _ _ _ a.1 a.3 _ c.args.new.now _ refl _ a.5 _ c.if-c-p.false c.put_parity.ensures

@@ -7,8 +7,8 @@ use Rattle.runs.specs.Steps.{fits_at}
 use Rattle.group_move.specs.MovedLaws.{moved_none, moved_turn, moved-end}
 use Rattle.group_move.proofs.move_contents.Goals as goal
 
-pub overflow_add-m : goal.overflow_add-m
-overflow_add-m c = let f = c.requires.0 in omega (arith, f.right.solvable.data_max, f.right.solvable.parity_max)
+pub overflow_add-c-end : goal.overflow_add-c-end
+overflow_add-c-end c = let f = c.requires.0 in omega (arith, f.right.solvable.data_max, f.right.solvable.parity_max)
 
 pub image_starts-starts-requires : goal.image_starts-starts-requires
 image_starts-starts-requires c = (c.requires.1, omega arith)
