@@ -4,8 +4,8 @@
 
 use layout::{Cursor, Step};
 use numbers::Layout;
+use std::io;
 use tile::Generator;
-use trial::{decimal, newline, text};
 
 fn layout_of(n: u64, k: u64, p: u64, u: u64, edition: u64) -> Layout {
     Layout {
@@ -19,235 +19,191 @@ fn layout_of(n: u64, k: u64, p: u64, u: u64, edition: u64) -> Layout {
     }
 }
 
-fn labelled(rt: &impl Print, label: &[u8], n: u64) {
-    text(rt, label);
-    decimal(rt, n);
-}
-
-fn show_numbers(rt: &impl Print, y: Layout) {
+fn show_numbers(rt: &impl Print, y: Layout) -> io::Result<()> {
     let answer = layout::measure(y);
-    let m = answer.numbers;
-    labelled(rt, b"N=", y.n);
-    labelled(rt, b" K=", y.k);
-    labelled(rt, b" P=", y.p);
-    labelled(rt, b" U=", y.u);
-    labelled(rt, b" T=", y.t);
-    labelled(rt, b": refusal ", answer.refusal);
-    labelled(rt, b", W=", m.w);
-    labelled(rt, b" B=", m.b);
-    labelled(rt, b" L=", m.l);
-    labelled(rt, b" C=", m.c);
-    labelled(rt, b" frames=", m.frames);
-    labelled(rt, b" groups=", m.groups);
-    labelled(rt, b" capacity=", m.capacity);
-    labelled(rt, b" image=", m.image);
-    newline(rt);
+    let refusal = lists::answer_number(answer);
+    let m = answer.unwrap_or_default();
+    print!(rt;
+        "N={} K={} P={} U={} T={}: refusal {refusal}, ",
+        y.n, y.k, y.p, y.u, y.t
+    )?;
+    print!(rt; "W={} B={} L={} C={} ", m.w, m.b, m.l, m.c)?;
+    println!(rt;
+        "frames={} groups={} capacity={} image={}",
+        m.frames, m.groups, m.capacity, m.image
+    )
 }
 
-fn show_state(rt: &impl Print, label: &[u8], g: Generator) {
-    labelled(rt, label, g.state);
-    newline(rt);
+// The state from which the exchanges begin, and those of three exchanges, each under its name.
+fn show_states(rt: &impl Print, edition: u64, names: [&str; 4]) -> io::Result<()> {
+    println!(rt; "Generator states of cookie 0, tile 0, edition {edition}")?;
+    let mut g = Generator::begin(edition, 0, 0);
+    for name in names {
+        println!(rt; "{name}: {}", g.state)?;
+        g = g.advance();
+    }
+    Ok(())
 }
 
-// The state from which the exchanges begin, and those of three exchanges.
-fn show_states(rt: &impl Print, edition: u64, begin: &[u8], one: &[u8], two: &[u8], three: &[u8]) {
-    labelled(
+fn show_entries(rt: &impl Print, entries: &[u8]) -> io::Result<()> {
+    for entry in entries {
+        print!(rt; " {entry}")?;
+    }
+    Ok(())
+}
+
+fn show_permutation(rt: &impl Print, y: Layout) -> io::Result<()> {
+    let count = y.p.min(64) as usize;
+    print!(rt; "P={}: permutation", y.p)?;
+    show_entries(
         rt,
-        b"Generator states of cookie 0, tile 0, edition ",
-        edition,
-    );
-    newline(rt);
-    let g = Generator::begin(edition, 0, 0);
-    show_state(rt, begin, g);
-    let first = g.advance();
-    show_state(rt, one, first);
-    let second = first.advance();
-    show_state(rt, two, second);
-    show_state(rt, three, second.advance());
+        &layout::tile_permutation(y, 0).unwrap_or([0; 64])[..count],
+    )?;
+    print!(rt; ", inverse")?;
+    show_entries(rt, &layout::tile_inverse(y, 0).unwrap_or([0; 64])[..count])?;
+    println!(rt; "")
 }
 
-fn show_entries(rt: &impl Print, entries: [u8; 64], count: u64) {
-    for i in 0usize..64 {
-        if (i as u64) < count {
-            labelled(rt, b" ", entries[i] as u64);
+fn show_permutations(rt: &impl Print, edition: u64) -> io::Result<()> {
+    println!(rt; "Permutations of cookie 0, tile 0, edition {edition}")?;
+    show_permutation(rt, layout_of(1, 1, 3, 1, edition))?;
+    show_permutation(rt, layout_of(1, 1, 4, 4, edition))
+}
+
+fn show_place(rt: &impl Print, y: Layout, group: u64, unit: u64) -> io::Result<()> {
+    print!(rt; "group {group} unit {unit}: ")?;
+    match layout::find_place(y, group, unit) {
+        Ok(found) => {
+            let at = found.place;
+            print!(rt;
+                "frame {} target {}, begins at {}, and back: ",
+                at.frame, at.target, found.begins
+            )?;
+            match layout::find_unit(y, at.frame, at.target) {
+                Ok(held) => println!(rt; "group {} unit {}", held.group, held.unit),
+                Err(refusal) => println!(rt; "refusal {refusal}"),
+            }
+        }
+        Err(refusal) => println!(rt; "refusal {refusal}"),
+    }
+}
+
+fn show_no_unit(rt: &impl Print, y: Layout, frame: u64, target: u64) -> io::Result<()> {
+    let refusal = lists::answer_number(layout::find_unit(y, frame, target));
+    println!(rt; "frame {frame} target {target}: refusal {refusal}")
+}
+
+fn show_places(rt: &impl Print, y: Layout) -> io::Result<()> {
+    println!(rt; "Places of N=1 K=1 P=4 U=4 T=1 cookie 0")?;
+    show_numbers(rt, y)?;
+    for group in 0..4 {
+        for unit in 0..3 {
+            show_place(rt, y, group, unit)?;
         }
     }
+    show_place(rt, y, 4, 0)?;
+    show_place(rt, y, 0, 3)?;
+    show_no_unit(rt, y, 3, 0)?;
+    show_no_unit(rt, y, 0, 4)
 }
 
-fn show_permutation(rt: &impl Print, y: Layout) {
-    labelled(rt, b"P=", y.p);
-    let forth = layout::tile_permutation(y, 0);
-    text(rt, b": permutation");
-    let entries = forth.entries;
-    show_entries(rt, entries, y.p);
-    let back = layout::tile_inverse(y, 0);
-    text(rt, b", inverse");
-    let inverse = back.entries;
-    show_entries(rt, inverse, y.p);
-    newline(rt);
-}
-
-fn show_permutations(rt: &impl Print, edition: u64) {
-    labelled(rt, b"Permutations of cookie 0, tile 0, edition ", edition);
-    newline(rt);
-    show_permutation(rt, layout_of(1, 1, 3, 1, edition));
-    show_permutation(rt, layout_of(1, 1, 4, 4, edition));
-}
-
-fn show_place(rt: &impl Print, y: Layout, group: u64, unit: u64) {
-    let at = layout::find_place(y, group, unit);
-    labelled(rt, b"group ", group);
-    labelled(rt, b" unit ", unit);
-    if at.refusal != 0 {
-        labelled(rt, b": refusal ", at.refusal);
-        newline(rt);
-        return;
+fn show_step(rt: &impl Print, y: Layout, target: u64, frame: u64) -> io::Result<()> {
+    print!(rt; "target {target} frame {frame}: ")?;
+    match (Cursor { target, frame }).step(y) {
+        Step::At(held, next) => println!(rt;
+            "group {} unit {}, next frame {}",
+            held.group, held.unit, next.frame
+        ),
+        Step::Done(_) => println!(rt; "done"),
+        Step::Refused(refusal, _) => println!(rt; "refusal {refusal}"),
     }
-    labelled(rt, b": frame ", at.frame);
-    labelled(rt, b" target ", at.target);
-    labelled(rt, b", begins at ", at.begins);
-    let held = layout::find_unit(y, at.frame, at.target);
-    labelled(rt, b", and back: group ", held.group);
-    labelled(rt, b" unit ", held.unit);
-    newline(rt);
 }
 
-fn show_no_unit(rt: &impl Print, y: Layout, frame: u64, target: u64) {
-    let held = layout::find_unit(y, frame, target);
-    labelled(rt, b"frame ", frame);
-    labelled(rt, b" target ", target);
-    labelled(rt, b": refusal ", held.refusal);
-    newline(rt);
-}
-
-fn show_places(rt: &impl Print, y: Layout) {
-    text(rt, b"Places of N=1 K=1 P=4 U=4 T=1 cookie 0\n");
-    show_numbers(rt, y);
-    for group in 0u64..4 {
-        for unit in 0u64..3 {
-            show_place(rt, y, group, unit);
+fn show_walks(rt: &impl Print, y: Layout) -> io::Result<()> {
+    println!(rt; "Walks over its targets")?;
+    for target in 0..5 {
+        for frame in 0..5 {
+            show_step(rt, y, target, frame)?;
         }
     }
-    show_place(rt, y, 4, 0);
-    show_place(rt, y, 0, 3);
-    show_no_unit(rt, y, 3, 0);
-    show_no_unit(rt, y, 0, 4);
+    Ok(())
 }
 
-fn show_step(rt: &impl Print, y: Layout, target: u64, frame: u64) {
-    labelled(rt, b"target ", target);
-    labelled(rt, b" frame ", frame);
-    let cursor = Cursor { target, frame };
-    let step = cursor.step(y);
-    match step {
-        Step::At(unit, next) => {
-            labelled(rt, b": group ", unit.group);
-            labelled(rt, b" unit ", unit.unit);
-            labelled(rt, b", next frame ", next.frame);
+fn show_offset(rt: &impl Print, y: Layout, offset: u64) -> io::Result<()> {
+    print!(rt; "offset {offset}: ")?;
+    match layout::map_offset(y, offset) {
+        Ok(found) => {
+            let held = found.held;
+            println!(rt;
+                "group {} unit {} byte {}, image byte {}",
+                held.group, held.unit, found.byte, found.image
+            )
         }
-        Step::Done(_) => {
-            text(rt, b": done");
-        }
-        Step::Refused(refusal, _) => {
-            labelled(rt, b": refusal ", refusal);
-        }
-    }
-    newline(rt);
-}
-
-fn show_walks(rt: &impl Print, y: Layout) {
-    text(rt, b"Walks over its targets\n");
-    for target in 0u64..5 {
-        for frame in 0u64..5 {
-            show_step(rt, y, target, frame);
-        }
+        Err(refusal) => println!(rt; "refusal {refusal}"),
     }
 }
 
-fn show_offset(rt: &impl Print, y: Layout, offset: u64) {
-    let at = layout::map_offset(y, offset);
-    labelled(rt, b"offset ", offset);
-    if at.refusal != 0 {
-        labelled(rt, b": refusal ", at.refusal);
-        newline(rt);
-        return;
+fn show_byte(rt: &impl Print, y: Layout, image: u64) -> io::Result<()> {
+    print!(rt; "image byte {image}: ")?;
+    match layout::map_byte(y, image) {
+        Ok(found) => {
+            let held = found.held;
+            print!(rt;
+                "group {} unit {} byte {}, ",
+                held.group, held.unit, found.byte
+            )?;
+            match found.offset {
+                Some(offset) => println!(rt; "offset {offset}"),
+                None => println!(rt; "not of the file"),
+            }
+        }
+        Err(refusal) => println!(rt; "refusal {refusal}"),
     }
-    labelled(rt, b": group ", at.group);
-    labelled(rt, b" unit ", at.unit);
-    labelled(rt, b" byte ", at.byte);
-    labelled(rt, b", image byte ", at.image);
-    newline(rt);
-}
-
-fn show_byte(rt: &impl Print, y: Layout, image: u64) {
-    let at = layout::map_byte(y, image);
-    labelled(rt, b"image byte ", image);
-    if at.refusal != 0 {
-        labelled(rt, b": refusal ", at.refusal);
-        newline(rt);
-        return;
-    }
-    labelled(rt, b": group ", at.group);
-    labelled(rt, b" unit ", at.unit);
-    labelled(rt, b" byte ", at.byte);
-    if at.is_data {
-        labelled(rt, b", offset ", at.offset);
-    } else {
-        text(rt, b", not of the file");
-    }
-    newline(rt);
 }
 
 // The bytes of offsets 0, 9 and 15, one of a parity unit, one of a spare, one past the image.
-fn show_bytes(rt: &impl Print, y: Layout) {
-    text(rt, b"And back from bytes of the image\n");
-    show_byte(rt, y, 24);
-    show_byte(rt, y, 41);
-    show_byte(rt, y, 23);
-    show_byte(rt, y, 14);
-    show_byte(rt, y, 36);
-    show_byte(rt, y, 48);
+fn show_bytes(rt: &impl Print, y: Layout) -> io::Result<()> {
+    println!(rt; "And back from bytes of the image")?;
+    for image in [24, 41, 23, 14, 36, 48] {
+        show_byte(rt, y, image)?;
+    }
+    Ok(())
 }
 
 // Dividing offset 9 by the spares too, beside what is right.
-fn show_slip(rt: &impl Print, y: Layout) {
-    text(rt, b"The slip of dividing by the spares too\n");
-    text(rt, b"offset 9 divided by U*(N+2K)=12: group ");
-    decimal(rt, 9 / 12);
-    text(rt, b" unit ");
-    decimal(rt, 9 % 12 / 4);
-    text(rt, b", a spare\n");
-    let at = layout::map_offset(y, 9);
-    labelled(rt, b"offset 9 divided by N*U=4: group ", at.group);
-    labelled(rt, b" unit ", at.unit);
-    newline(rt);
+fn show_slip(rt: &impl Print, y: Layout) -> io::Result<()> {
+    println!(rt; "The slip of dividing by the spares too")?;
+    println!(rt;
+        "offset 9 divided by U*(N+2K)=12: group {} unit {}, a spare",
+        9 / 12,
+        9 % 12 / 4
+    )?;
+    match layout::map_offset(y, 9) {
+        Ok(found) => println!(rt;
+            "offset 9 divided by N*U=4: group {} unit {}",
+            found.held.group, found.held.unit
+        ),
+        Err(refusal) => println!(rt; "refusal {refusal}"),
+    }
 }
 
-fn main(rt: HostRuntime) {
-    text(&rt, b"Layout numbers\n");
-    show_numbers(&rt, layout_of(4, 2, 20, 1, 1));
-    show_numbers(&rt, layout_of(1, 0, 1, 1, 1));
-    show_numbers(&rt, layout_of(16, 3, 22, 1, 1));
-    show_numbers(&rt, layout_of(16, 3, 21, 1, 1));
-    show_states(&rt, 1, b"start: ", b"state 1: ", b"state 2: ", b"state 3: ");
-    show_permutations(&rt, 1);
+fn main(rt: HostRuntime) -> io::Result<()> {
+    println!(rt; "Layout numbers")?;
+    show_numbers(&rt, layout_of(4, 2, 20, 1, 1))?;
+    show_numbers(&rt, layout_of(1, 0, 1, 1, 1))?;
+    show_numbers(&rt, layout_of(16, 3, 22, 1, 1))?;
+    show_numbers(&rt, layout_of(16, 3, 21, 1, 1))?;
+    show_states(&rt, 1, ["start", "state 1", "state 2", "state 3"])?;
+    show_permutations(&rt, 1)?;
     let y = layout_of(1, 1, 4, 4, 1);
-    show_places(&rt, y);
-    show_walks(&rt, y);
-    text(&rt, b"File offsets\n");
-    show_offset(&rt, y, 0);
-    show_offset(&rt, y, 9);
-    show_offset(&rt, y, 15);
-    show_offset(&rt, y, 16);
-    show_bytes(&rt, y);
-    show_slip(&rt, y);
-    show_states(
-        &rt,
-        2,
-        b"state 4: ",
-        b"state 5: ",
-        b"state 6: ",
-        b"state 7: ",
-    );
-    show_permutations(&rt, 2);
+    show_places(&rt, y)?;
+    show_walks(&rt, y)?;
+    println!(rt; "File offsets")?;
+    for offset in [0, 9, 15, 16] {
+        show_offset(&rt, y, offset)?;
+    }
+    show_bytes(&rt, y)?;
+    show_slip(&rt, y)?;
+    show_states(&rt, 2, ["state 4", "state 5", "state 6", "state 7"])?;
+    show_permutations(&rt, 2)
 }
