@@ -1,57 +1,96 @@
 // Layouts just inside and outside every bound, and with the largest numbers of 64 bits.
+use crate::show;
 use numbers::Layout;
+use std::io;
 
-const ONES: u64 = 18446744073709551615;
+// A layout that is inside.
+const INSIDE: Layout = Layout {
+    n: 4,
+    k: 2,
+    p: 20,
+    u: 16,
+    t: 3,
+    cookie: 7,
+    edition: 1,
+};
 
-const HALF: u64 = 9223372036854775808;
+const HALF: u64 = 1 << 63;
 
-const HALF_LESS: u64 = 9223372036854775807;
-
-fn lines(rt: &impl Print, y: Layout) {
-    crate::show::head(rt, b"bound", y);
-    crate::show::numbers(rt, y);
-    crate::show::tile(rt, y, 0);
-    crate::show::place(rt, y, 0, 0);
-    crate::show::back(rt, y, 0, 0);
-    crate::show::offset(rt, y, 0);
-    crate::show::byte(rt, y, 0);
-    crate::show::step(rt, y, 0, 0);
-    crate::show::step(rt, y, 3, ONES);
+fn lines(rt: &impl Print, y: Layout) -> io::Result<()> {
+    show::head(rt, "bound", y)?;
+    show::numbers(rt, y)?;
+    show::tile(rt, y, 0)?;
+    show::place(rt, y, 0, 0)?;
+    show::back(rt, y, 0, 0)?;
+    show::offset(rt, y, 0)?;
+    show::byte(rt, y, 0)?;
+    show::step(rt, y, 0, 0)?;
+    show::step(rt, y, 3, u64::MAX)
 }
 
-fn bound(rt: &impl Print, n: u64, k: u64, p: u64, u: u64, t: u64, cookie: u64) {
-    lines(
-        rt,
-        Layout {
-            n,
-            k,
-            p,
-            u,
-            t,
-            cookie,
-            edition: 1,
-        },
-    );
+fn data(rt: &impl Print) -> io::Result<()> {
+    for (n, k, p) in [
+        (0, 2, 20),
+        (1, 2, 20),
+        (16, 2, 20),
+        (16, 2, 64),
+        (17, 2, 64),
+        (17, 0, 64),
+        (u64::MAX, 2, 20),
+        (u64::MAX - 1, 1, 20),
+    ] {
+        lines(rt, Layout { n, k, p, ..INSIDE })?;
+    }
+    Ok(())
 }
 
-// An edition beside numbers that are inside.
-fn edition(rt: &impl Print, x: u64) {
-    lines(
-        rt,
-        Layout {
-            n: 4,
-            k: 2,
-            p: 20,
-            u: 16,
-            t: 3,
-            cookie: 7,
-            edition: x,
-        },
-    );
+fn parity(rt: &impl Print) -> io::Result<()> {
+    for k in [0, 3, 4, u64::MAX, HALF - 1, HALF] {
+        lines(rt, Layout { k, ..INSIDE })?;
+    }
+    Ok(())
+}
+
+fn targets(rt: &impl Print) -> io::Result<()> {
+    for (n, k, p) in [
+        (4, 2, 0),
+        (4, 2, 7),
+        (4, 2, 8),
+        (4, 2, 9),
+        (16, 3, 21),
+        (16, 3, 22),
+        (4, 2, 64),
+        (4, 2, 65),
+        (4, 2, u64::MAX),
+    ] {
+        lines(rt, Layout { n, k, p, ..INSIDE })?;
+    }
+    Ok(())
+}
+
+fn bytes(rt: &impl Print) -> io::Result<()> {
+    for u in [0, 1, 4096, 4097, u64::MAX] {
+        lines(rt, Layout { u, ..INSIDE })?;
+    }
+    Ok(())
+}
+
+fn tiles(rt: &impl Print) -> io::Result<()> {
+    for t in [0, 1, 65536, 65537, u64::MAX] {
+        lines(rt, Layout { t, ..INSIDE })?;
+    }
+    Ok(())
+}
+
+fn editions(rt: &impl Print) -> io::Result<()> {
+    for edition in [0, 1, 2, 3, u64::MAX] {
+        lines(rt, Layout { edition, ..INSIDE })?;
+    }
+    Ok(())
 }
 
 // The same number in every place.
-fn all(rt: &impl Print, x: u64) {
+fn all(rt: &impl Print, x: u64) -> io::Result<()> {
     lines(
         rt,
         Layout {
@@ -63,73 +102,23 @@ fn all(rt: &impl Print, x: u64) {
             cookie: x,
             edition: x,
         },
-    );
+    )
 }
 
-fn data(rt: &impl Print) {
-    bound(rt, 0, 2, 20, 16, 3, 7);
-    bound(rt, 1, 2, 20, 16, 3, 7);
-    bound(rt, 16, 2, 20, 16, 3, 7);
-    bound(rt, 16, 2, 64, 16, 3, 7);
-    bound(rt, 17, 2, 64, 16, 3, 7);
-    bound(rt, 17, 0, 64, 16, 3, 7);
-    bound(rt, ONES, 2, 20, 16, 3, 7);
-    bound(rt, 18446744073709551614, 1, 20, 16, 3, 7);
-}
-
-fn parity(rt: &impl Print) {
-    bound(rt, 4, 0, 20, 16, 3, 7);
-    bound(rt, 4, 3, 20, 16, 3, 7);
-    bound(rt, 4, 4, 20, 16, 3, 7);
-    bound(rt, 4, ONES, 20, 16, 3, 7);
-    bound(rt, 4, HALF_LESS, 20, 16, 3, 7);
-    bound(rt, 4, HALF, 20, 16, 3, 7);
-}
-
-fn targets(rt: &impl Print) {
-    bound(rt, 4, 2, 0, 16, 3, 7);
-    bound(rt, 4, 2, 7, 16, 3, 7);
-    bound(rt, 4, 2, 8, 16, 3, 7);
-    bound(rt, 4, 2, 9, 16, 3, 7);
-    bound(rt, 16, 3, 21, 16, 3, 7);
-    bound(rt, 16, 3, 22, 16, 3, 7);
-    bound(rt, 4, 2, 64, 16, 3, 7);
-    bound(rt, 4, 2, 65, 16, 3, 7);
-    bound(rt, 4, 2, ONES, 16, 3, 7);
-}
-
-fn bytes(rt: &impl Print) {
-    bound(rt, 4, 2, 20, 0, 3, 7);
-    bound(rt, 4, 2, 20, 1, 3, 7);
-    bound(rt, 4, 2, 20, 4096, 3, 7);
-    bound(rt, 4, 2, 20, 4097, 3, 7);
-    bound(rt, 4, 2, 20, ONES, 3, 7);
-}
-
-fn tiles(rt: &impl Print) {
-    bound(rt, 4, 2, 20, 16, 0, 7);
-    bound(rt, 4, 2, 20, 16, 1, 7);
-    bound(rt, 4, 2, 20, 16, 65536, 7);
-    bound(rt, 4, 2, 20, 16, 65537, 7);
-    bound(rt, 4, 2, 20, 16, ONES, 7);
-}
-
-fn editions(rt: &impl Print) {
-    edition(rt, 0);
-    edition(rt, 1);
-    edition(rt, 2);
-    edition(rt, 3);
-    edition(rt, ONES);
-}
-
-pub fn show_all(rt: &impl Print) {
-    data(rt);
-    parity(rt);
-    targets(rt);
-    bytes(rt);
-    tiles(rt);
-    bound(rt, 4, 2, 20, 16, 3, ONES);
-    editions(rt);
-    all(rt, 0);
-    all(rt, ONES);
+pub fn show_all(rt: &impl Print) -> io::Result<()> {
+    data(rt)?;
+    parity(rt)?;
+    targets(rt)?;
+    bytes(rt)?;
+    tiles(rt)?;
+    lines(
+        rt,
+        Layout {
+            cookie: u64::MAX,
+            ..INSIDE
+        },
+    )?;
+    editions(rt)?;
+    all(rt, 0)?;
+    all(rt, u64::MAX)
 }
