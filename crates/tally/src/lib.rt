@@ -38,6 +38,7 @@ fn in_tile(y: Layout, s: Shape, r: Record, target: u64, tile: u64) -> u64
 {
     let to = place::permutation(y, tile);
     let column = tile::column_of(&to, target);
+    // Loops here and below, no sums over chains: that a sum fits is what each turn keeps.
     let mut n = 0;
     for row in 0..s.l {
         let unit = place::unit_at(y, s, tile, row, column);
