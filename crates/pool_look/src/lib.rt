@@ -7,7 +7,7 @@ ghost use Rattle.numbers.specs.Layouts.{all_groups};
 ghost use Rattle.pool.specs.Asked.{Sound};
 ghost use Rattle.pool.specs.Calls.{Prepares, Shows};
 ghost use Rattle.survey.specs.Surveyed.{Surveyed};
-ghost use Rattle.pool_look.specs.Parts.{shown_of, lent_of};
+ghost use Rattle.pool_look.specs.Parts.{shown_of};
 ghost use Rattle.pool_look.specs.Shown.{shown_at};
 
 use homes::Record;
@@ -117,7 +117,8 @@ pub fn locate(
     })
 }
 
-// Shows the unit: a part of the image, or the scratch where the content is missing.
+// Shows the unit: a part of the image, or the scratch where the content is missing; nothing where
+// refused. The refusal number goes into the lent answer, as document 01 has it.
 pub fn show<'a>(
     y: Layout,
     r: Record,
@@ -125,12 +126,15 @@ pub fn show<'a>(
     scratch: &'a [u8],
     group: u64,
     content: u64,
-) -> Result<&'a [u8], Refusal>
-    ensures { Shows y r image.now scratch.now group content (answer_number result) (lent_of result) }
+    answer: &mut u64,
+) -> &'a [u8]
+    ensures { Shows y r image.now scratch.now group content answer.new result.now }
 {
-    let part = locate(y, r, image.len(), scratch.len(), group, content)?;
-    if part.missing {
-        return Ok(scratch);
+    let found = locate(y, r, image.len(), scratch.len(), group, content);
+    let x = Shown::from(found);
+    *answer = x.refusal;
+    if x.missing {
+        return scratch;
     }
-    Ok(&image[part.begins..part.begins + part.length])
+    &image[x.begins..x.begins + x.length]
 }

@@ -3,7 +3,7 @@ use Rattle.std.proofs.Common.{◌≡◌, true, false, ℕ, refl, sym, ◌∙◌,
 use Rattle.std.proofs.lemmas.Result.{err_from_is_err_and}
 use Rattle.lists.proofs.Answering.{refused}
 use Rattle.lists.specs.Refusal.{grant_no}
-use Rattle.pool.specs.Asked.{LookAsked, look_asked}
+use Rattle.pool.specs.Asked.{look_asked}
 use Rattle.pool_look.specs.declared.Shown.{Shown}
 use Rattle.pool_look.specs.Shown.{shown_at}
 use Rattle.pool_look.specs.Looks.{content-small, located}
