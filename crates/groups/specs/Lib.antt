@@ -4,3 +4,4 @@ pub mod Parts
 pub mod Mend
 pub mod Read
 pub mod Local
+pub mod Walk

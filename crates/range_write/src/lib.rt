@@ -22,14 +22,17 @@ pub fn write_range(y: Layout, r: Record, image: &mut [u8], offset: u64, bytes: &
     let s = numbers::shape_of(y);
     let span = y.n * y.u;
     let end = offset + bytes.len() as u64;
-    let mut g = offset / span;
-    let mut from = span * g;
-    let mut survey = survey::begin(y, s, g);
-    while from < end {
+    let first = offset / span;
+    let last = end.div_ceil(span);
+    let mut survey = survey::begin(y, s, first);
+    for g in first..last {
         survey = survey::next(survey, y, s, r, g);
-        let plan = survey.plan;
-        groups::write_group(plan, image, bytes, from as usize, offset as usize);
-        g += 1;
-        from += span;
+        groups::write_group(
+            survey.plan,
+            image,
+            bytes,
+            (span * g) as usize,
+            offset as usize,
+        );
     }
 }

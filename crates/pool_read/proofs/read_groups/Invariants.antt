@@ -1,5 +1,5 @@
 use mathlib.Core.Path.{◌≡◌}
-use Prim.Native.Nat.{ℕ, ◌+◌, ◌*◌, ◌-◌, ◌<◌}
+use Prim.Native.Nat.{ℕ, ◌+◌, ◌*◌, ◌<◌}
 use lib.Dec.{ltb}
 use lib.ListN.{length, get_or}
 use Rattle.lists.specs.Pick.{pick}
@@ -7,9 +7,6 @@ use Rattle.pool.specs.Contents.{file_byte}
 use Rattle.survey.specs.Surveyed.{Surveying}
 use Rattle.pool_read.proofs.read_groups.Given as goal
 
-abbrev pub invariant-loop-from : goal.invariant-loop-from
-invariant-loop-from l = (l.from ≡ l.g * (l.y.n * l.y.u)) × (length l.out ≡ length l.initial.out) × Surveying l.y l.survey
-    × ((x : ℕ) → x < length l.initial.out → get_or l.out x 0 ≡ pick (ltb (l.offset + x) l.from) (file_byte l.y l.r l.image (l.offset + x)) (get_or l.initial.out x 0))
-
-abbrev pub decreases-loop-from : goal.decreases-loop-from
-decreases-loop-from l = l.end - l.from
+abbrev pub invariant-loop-g : goal.invariant-loop-g
+invariant-loop-g l = (length l.out ≡ length l.initial.out) × Surveying l.y l.survey
+    × ((x : ℕ) → x < length l.initial.out → get_or l.out x 0 ≡ pick (ltb (l.offset + x) (l.g * (l.y.n * l.y.u))) (file_byte l.y l.r l.image (l.offset + x)) (get_or l.initial.out x 0))
