@@ -1,18 +1,13 @@
 -- What is known once a list is not refused, and while its tests are made.
-use Rattle.std.specs.Prelude.{◌≡◌, Bool, true, false, List, ℕ, ◌+◌, ◌-◌, ◌≤◌, ◌<◌, eqb, leb, length}
-use Rattle.std.proofs.Math.Path.{refl, ap}
-use Rattle.std.proofs.Common.{sym, ◌∙◌, arith}
+use Rattle.std.specs.Prelude.{◌≡◌, List, ℕ, length}
+use Rattle.std.proofs.Math.Path.{refl}
 use borrow.Author.Tests.{eqb-true, leb-true}
-use Rattle.lists.specs.Pick.{pick, both_true}
 use Rattle.lists.specs.Count.{sum}
 use Rattle.lists.specs.Search.{all-at}
 use Rattle.numbers.specs.declared.Layout.{Layout}
-use Rattle.numbers.specs.Layouts.{capacity}
 use Rattle.homes.specs.declared.Record.{Record}
-use Rattle.pool.specs.Refusals.{range_tests, range_refusal}
-use Rattle.pool.specs.Asked.{Sound, pool-asked, sound-passes}
-use Rattle.checks.specs.Tests.{inside_of, range_by}
-use Rattle.pool_list.specs.Ranges.{range_offset, range_size, inside_alone, list_tests, list_refusal}
+use Rattle.pool.specs.Asked.{pool-asked}
+use Rattle.pool_list.specs.Ranges.{range_size, inside_alone, list_tests, list_refusal}
 use Rattle.pool_list.specs.Asked.{ListAsked}
 
 module _ (y : Layout) (R : Record) (len : ℕ) (rs : List (List ℕ)) where

@@ -1,13 +1,10 @@
 -- What each write of a list keeps, the list keeps: so its laws are those of its writes.
-use Rattle.std.specs.Prelude.{◌≡◌, ◌⊎◌, true, eqb, leb}
+use Rattle.std.specs.Prelude.{◌≡◌, ◌⊎◌, true}
 use Rattle.std.proofs.Math.Path.{refl, ap}
 use Rattle.std.proofs.Common.{sym, ◌∙◌, subst, inl, inr, ⊎_elim, arith}
-use Rattle.std.proofs.Math.Bool.{not}
 use mathlib.Core.List.{List}
 use Prim.Native.Nat.{ℕ, zero, suc, ◌≤◌, ◌<◌}
 use Rattle.std.proofs.Math.ListN.{length}
-use Rattle.lists.specs.Pick.{pick, both}
-use Rattle.lists.specs.Search.{lowest}
 use Rattle.lists.specs.Tabulate.{at}
 use Rattle.lists.specs.Refusal.{grant, grant-either}
 use Rattle.numbers.specs.declared.Layout.{Layout}
@@ -20,9 +17,7 @@ use Rattle.pool.specs.Blind.{Agree}
 use Rattle.pool.proofs.BlindLaws.{write_agree}
 use Rattle.pool.specs.Elsewhere.{AgreeElsewhere, unseen}
 use Rattle.pool.proofs.ElsewhereKeptLaws.{write_elsewhere, write_spares_unseen}
-use Rattle.pool.specs.Unread.{Alike}
-use Rattle.pool.proofs.UnreadLaws.{tests_same, write_unread}
-use Rattle.pool_list.specs.Ranges.{range_offset, range_size, range_bytes, inside_alone, list_tests, list_refusal, list_range, after_ranges, list_image}
+use Rattle.pool_list.specs.Ranges.{range_offset, range_bytes, list_refusal, after_ranges, list_image}
 use Rattle.pool_list.specs.Steps.{bytes_length}
 use Rattle.pool_list.specs.Kept.{WrittenByOne}
 

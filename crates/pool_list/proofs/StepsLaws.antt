@@ -4,8 +4,8 @@ use Rattle.std.proofs.Math.Path.{refl, sym}
 use Rattle.std.proofs.Common.{ap, ◌∙◌, add-one, arith}
 use Prim.Native.Nat.{ℕ, zero, suc, ◌+◌, ◌-◌, ◌≤◌, ◌<◌}
 use Rattle.lists.specs.Pick.{pick}
-use Rattle.lists.specs.Count.{sum, sum_next, sum_mono}
-use Rattle.lists.specs.Tabulate.{at, tabulate, length-tabulate, part_tabulated}
+use Rattle.lists.specs.Count.{sum, sum_next}
+use Rattle.lists.specs.Tabulate.{at, tabulate, part_tabulated}
 use Rattle.lists.specs.Refusal.{grant_yes, grant_no}
 use Rattle.numbers.specs.declared.Layout.{Layout}
 use Rattle.numbers.specs.Layouts.{capacity}

@@ -1,19 +1,13 @@
 -- Which range is answered: "the first range that earns" the number.
-use Rattle.std.specs.Prelude.{◌≡◌, refl, Bool, true, List, [], ◌∷◌, ℕ, suc, ◌-◌, ◌≤◌, ◌<◌, eqb, leb, length}
-use Rattle.std.proofs.Common.{sym, ap, ◌∙◌, arith}
-use Rattle.std.proofs.Math.Path.{subst⁻¹}
+use Rattle.std.specs.Prelude.{◌≡◌, refl, Bool, true, List, [], ◌∷◌, ℕ, suc, ◌≤◌, ◌<◌, length}
+use Rattle.std.proofs.Common.{arith}
 use Rattle.std.proofs.Math.Bool.{false}
-use borrow.Author.Tests.{eqb-true, eq-eqb, leb-true, le-leb}
-use Rattle.lists.specs.Pick.{pick, pick_true, pick-false, both, both_true, clash, not-both_ways}
-use Rattle.lists.specs.Search.{all}
-use Rattle.lists.specs.First.{FirstFailing, lowest_fails}
+use Rattle.lists.specs.Pick.{clash}
 use Rattle.lists.specs.Refusal.{◌or_else◌, refusal_by}
 use Rattle.numbers.specs.declared.Layout.{Layout}
 use Rattle.homes.specs.declared.Record.{Record}
 use Rattle.pool.specs.Refusals.{range_refusal}
-use Rattle.pool.specs.Asked.{Sound, sound-passes, pool_passed}
-use Rattle.pool_list.specs.Ranges.{range_offset, range_size, inside_alone, list_tests, list_refusal, list_range}
-use Rattle.pool_list.specs.Asked.{alone_by}
+use Rattle.pool_list.specs.Ranges.{range_offset, range_size}
 
 -- what it means of range number m, counted from 1: a write of each range before it alone would be accepted, and of it alone refused with `number`
 pub record FirstRefused (y : Layout) (R : Record) (len : ℕ) (rs : List (List ℕ)) (number m : ℕ) : Type 0 where

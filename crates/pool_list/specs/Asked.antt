@@ -2,17 +2,16 @@
 use Rattle.std.specs.Prelude.{◌≡◌, Bool, true, false, List, ℕ, ◌+◌, ◌-◌, ◌≤◌, ◌<◌, eqb, leb, length}
 use Rattle.std.proofs.Math.Path.{refl, ap}
 use Rattle.std.proofs.Common.{sym, ◌∙◌, arith}
-use borrow.Author.Tests.{eqb-true, leb-true}
+use borrow.Author.Tests.{leb-true}
 use Rattle.lists.specs.Pick.{pick, both_true}
 use Rattle.lists.specs.Count.{sum}
-use Rattle.lists.specs.Search.{all-at}
 use Rattle.numbers.specs.declared.Layout.{Layout}
 use Rattle.numbers.specs.Layouts.{capacity}
 use Rattle.homes.specs.declared.Record.{Record}
 use Rattle.pool.specs.Refusals.{range_tests, range_refusal}
-use Rattle.pool.specs.Asked.{Sound, pool-asked, sound-passes}
+use Rattle.pool.specs.Asked.{Sound, sound-passes}
 use Rattle.checks.specs.Tests.{inside_of, range_by}
-use Rattle.pool_list.specs.Ranges.{range_offset, range_size, inside_alone, list_tests, list_refusal}
+use Rattle.pool_list.specs.Ranges.{range_offset, range_size, inside_alone}
 
 -- the two tests that the code makes of a range are those that a write of it alone makes
 pub inside_is : (y : Layout) (rs : List (List ℕ)) (i : ℕ) → inside_of (capacity y) (range_offset rs i) (range_size rs i) ≡ inside_alone y rs i

@@ -1,29 +1,21 @@
 -- What each write of a list keeps, the list keeps: so its laws are those of its writes.
-use Rattle.std.specs.Prelude.{◌≡◌, ◌⊎◌, true, eqb, leb}
+use Rattle.std.specs.Prelude.{◌≡◌, eqb, leb}
 use Rattle.std.proofs.Math.Path.{refl, ap}
-use Rattle.std.proofs.Common.{sym, ◌∙◌, subst, inl, inr, ⊎_elim, arith}
+use Rattle.std.proofs.Common.{◌∙◌}
 use Rattle.std.proofs.Math.Bool.{not}
 use mathlib.Core.List.{List}
-use Prim.Native.Nat.{ℕ, zero, suc, ◌≤◌, ◌<◌}
+use Prim.Native.Nat.{ℕ, zero, suc, ◌<◌}
 use Rattle.std.proofs.Math.ListN.{length}
 use Rattle.lists.specs.Pick.{pick, both}
 use Rattle.lists.specs.Search.{lowest}
-use Rattle.lists.specs.Tabulate.{at}
-use Rattle.lists.specs.Refusal.{grant, grant-either}
+use Rattle.lists.specs.Refusal.{grant}
 use Rattle.numbers.specs.declared.Layout.{Layout}
 use Rattle.homes.specs.declared.Record.{Record}
 use Rattle.pool.specs.Writing.{write_image}
-use Rattle.pool.proofs.WriteHoldsLaws.{write_length}
 use Rattle.pool.specs.Changes.{Written}
-use Rattle.pool.proofs.ChangesLaws.{write_changes}
-use Rattle.pool.specs.Blind.{Agree}
-use Rattle.pool.proofs.BlindLaws.{write_agree}
-use Rattle.pool.specs.Elsewhere.{AgreeElsewhere, unseen}
-use Rattle.pool.proofs.ElsewhereKeptLaws.{write_elsewhere, write_spares_unseen}
 use Rattle.pool.specs.Unread.{Alike}
 use Rattle.pool.proofs.UnreadLaws.{tests_same, write_unread}
 use Rattle.pool_list.specs.Ranges.{range_offset, range_size, range_bytes, inside_alone, list_tests, list_refusal, list_range, after_ranges, list_image}
-use Rattle.pool_list.specs.Steps.{bytes_length}
 
 -- one of the ranges is written at image byte x
 pub record WrittenByOne (y : Layout) (R : Record) (rs : List (List ℕ)) (x : ℕ) : Type 0 where

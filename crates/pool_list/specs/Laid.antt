@@ -3,19 +3,13 @@ use Rattle.std.specs.Prelude.{◌≡◌, true, false, List, length}
 use Rattle.std.proofs.Math.Path.{refl, ap, subst}
 use Rattle.std.proofs.Common.{sym, ◌∙◌, not-suc-le-zero, le_of_suc-le-suc, eq-or-lt_of_le, arith}
 use Rattle.std.proofs.Math.Logic.{⊎_elim}
-use Prim.Native.Nat.{ℕ, zero, suc, ◌+◌, ◌-◌, ◌≤◌, ◌<◌}
-use Rattle.std.proofs.Math.ListN.{get_or-eq_default}
-use Rattle.lists.specs.Pick.{pick, pick_true, pick-false, below_or_not}
+use Prim.Native.Nat.{ℕ, zero, suc, ◌+◌, ◌-◌, ◌<◌}
+use Rattle.lists.specs.Pick.{pick, pick_true, pick-false}
 use Rattle.lists.specs.Part.{within, within_of}
 use Rattle.lists.specs.Count.{sum}
 use Rattle.lists.specs.Tabulate.{at, get_d_tabulate, length-tabulate}
-use Rattle.lists.specs.Refusal.{grant}
-use Rattle.numbers.specs.declared.Layout.{Layout}
-use Rattle.homes.specs.declared.Record.{Record}
 use Rattle.pool.specs.Files.{written}
-use Rattle.pool.specs.Holds.{Holds}
-use Rattle.pool.proofs.WriteHoldsLaws.{write_right}
-use Rattle.pool_list.specs.Ranges.{range_offset, range_size, range_bytes, list_refusal, after_ranges, list_image, laid_ranges}
+use Rattle.pool_list.specs.Ranges.{range_offset, range_size, range_bytes, laid_ranges}
 use Rattle.pool_list.specs.Steps.{bytes_length}
 
 -- ---- the bytes of each range are bytes

@@ -4,3 +4,4 @@ pub mod Steps
 pub mod Kept
 pub mod Laid
 pub mod Answered
+pub mod Told

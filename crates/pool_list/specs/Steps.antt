@@ -1,20 +1,9 @@
 -- What the loops of the call go by: each range's part of the buffer, and one range more.
-use Rattle.std.specs.Prelude.{◌≡◌, List, length, take, drop}
-use Rattle.std.proofs.Math.Path.{refl, sym}
-use Rattle.std.proofs.Common.{ap, ◌∙◌, add-one, arith}
-use Prim.Native.Nat.{ℕ, zero, suc, ◌+◌, ◌-◌, ◌≤◌, ◌<◌}
-use Rattle.lists.specs.Pick.{pick}
-use Rattle.lists.specs.Count.{sum, sum_next, sum_mono}
-use Rattle.lists.specs.Tabulate.{at, tabulate, length-tabulate, part_tabulated}
-use Rattle.lists.specs.Refusal.{grant_yes, grant_no}
-use Rattle.numbers.specs.declared.Layout.{Layout}
-use Rattle.numbers.specs.Layouts.{capacity}
-use Rattle.homes.specs.declared.Record.{Record}
-use Rattle.pool.specs.Refusals.{range_refusal}
-use Rattle.pool.specs.Writing.{written_image}
-use Rattle.pool.proofs.WriteHoldsLaws.{write_length, write_accepted}
-use Rattle.pool_list.specs.Ranges.{range_offset, range_size, range_bytes, list_refusal, after_ranges, list_image}
-use Rattle.pool_list.specs.Asked.{inside_fits, ListAsked, alone_by}
+use Rattle.std.specs.Prelude.{◌≡◌, List, length}
+use Prim.Native.Nat.{ℕ, suc, ◌+◌, ◌≤◌, ◌<◌}
+use Rattle.lists.specs.Count.{sum, sum_mono}
+use Rattle.lists.specs.Tabulate.{length-tabulate}
+use Rattle.pool_list.specs.Ranges.{range_size, range_bytes}
 
 -- ---- the parts of the buffer
 

@@ -2,17 +2,26 @@
 // store." A range is a pair, its offset and its length; the tests are made once for the whole list.
 #![tactic(auto)]
 
-ghost use Rattle.std.specs.Prelude.{◌≡◌, ℕ, ◌≤◌, ◌<◌, length};
+ghost use Rattle.std.specs.Prelude.{◌≡◌, ℕ, ◌≤◌, ◌<◌, length, Err, IfSome, IsNone};
 ghost use Rattle.lists.specs.Count.{sum};
 ghost use Rattle.lists.specs.First.{first_failing};
 ghost use Rattle.checks.specs.Tests.{inside_of};
 ghost use Rattle.pool_list.specs.Ranges.{range_offset, range_size, after_ranges, WritesList};
 ghost use Rattle.pool_list.specs.Asked.{ListAsked};
+ghost use Rattle.pool_list.specs.Told.{told_refusal, told_range};
 
 use homes::Record;
+use lists::Refusal;
 use numbers::Layout;
 
-// The refusal number, and with 4 the first range that is outside, counted from 1; 0 where the number is another, or where there are too many.
+// Why a list is refused, and the first range that is outside, counted from 1, where one is.
+#[derive(Clone, Copy, Debug, PartialEq, Eq)]
+pub struct ListRefusal {
+    pub refusal: Refusal,
+    pub range: Option<u64>,
+}
+
+// The answer as C has it: the refusal's number, and the range; 0 where there is none.
 #[repr(C)]
 #[derive(Clone, Copy)]
 pub struct ListWritten {
@@ -20,19 +29,42 @@ pub struct ListWritten {
     pub range: u64,
 }
 
-// The first range outside a file of `capacity` bytes, counted from 1; 0 where all are inside.
-fn first_outside(capacity: u64, ranges: &[[u64; 2]]) -> u64
-    requires { length ranges.now ≤ 64 }
-    ensures { result ≡ first_failing (λ i. inside_of capacity (range_offset ranges.now i) (range_size ranges.now i)) (length ranges.now) }
-{
-    for i in 0..ranges.len() {
-        let offset = ranges[i][0];
-        let size = ranges[i][1];
-        if !checks::is_inside(capacity, offset, size) {
-            return i as u64 + 1;
+impl From<Result<(), ListRefusal>> for ListWritten {
+    ghost from_gives = { λ answer made. (made.refusal ≡ told_refusal answer) × (made.range ≡ told_range answer) };
+
+    fn from(answer: Result<(), ListRefusal>) -> ListWritten {
+        match answer {
+            Ok(()) => ListWritten {
+                refusal: 0,
+                range: 0,
+            },
+            Err(refused) => ListWritten {
+                refusal: refused.refusal.into(),
+                range: refused.range.unwrap_or(0),
+            },
         }
     }
-    0
+}
+
+fn refused(refusal: Refusal, range: Option<u64>) -> Result<(), ListRefusal>
+    ensures { result ≡ Err (record { refusal = refusal; range = range }) }
+{
+    Err(ListRefusal { refusal, range })
+}
+
+// The first range outside a file of `capacity` bytes, counted from 1.
+fn first_outside(capacity: u64, ranges: &[[u64; 2]]) -> Option<u64>
+    requires { length ranges.now ≤ 64 }
+    ensures some { IfSome result (λ m. (0 < m) × (m ≡ first_failing (λ i. inside_of capacity (range_offset ranges.now i) (range_size ranges.now i)) (length ranges.now))) }
+    ensures none { IsNone result → first_failing (λ i. inside_of capacity (range_offset ranges.now i) (range_size ranges.now i)) (length ranges.now) ≡ 0 }
+{
+    for i in 0..ranges.len() {
+        let [offset, size] = ranges[i];
+        if !checks::is_inside(capacity, offset, size) {
+            return Some(i as u64 + 1);
+        }
+    }
+    None
 }
 
 // The sum of the lengths. It is taken once all ranges are inside, so it does not wrap.
@@ -54,8 +86,8 @@ fn write_ranges(y: Layout, r: Record, image: &mut [u8], ranges: &[[u64; 2]], byt
 {
     let mut at = 0;
     for i in 0..ranges.len() {
-        let offset = ranges[i][0];
-        let end = at + ranges[i][1] as usize;
+        let [offset, size] = ranges[i];
+        let end = at + size as usize;
         range_write::write_range(y, r, image, offset, &bytes[at..end]);
         at = end;
     }
@@ -68,33 +100,22 @@ pub fn write_list(
     image: &mut [u8],
     ranges: &[[u64; 2]],
     bytes: &[u8],
-) -> ListWritten
-    ensures { WritesList y r image.old ranges.now bytes.now result.refusal result.range image.new }
+) -> Result<(), ListRefusal>
+    ensures { WritesList y r image.old ranges.now bytes.now (told_refusal result) (told_range result) image.new }
 {
-    let refusal = checks::pool_refusal(y, r, image.len());
-    if refusal != 0 {
-        return ListWritten { refusal, range: 0 };
+    if let Err(refusal) = checks::check_pool(y, r, image.len()) {
+        return refused(refusal, None);
     }
     if 64 < ranges.len() {
-        return ListWritten {
-            refusal: 4,
-            range: 0,
-        };
+        return refused(Refusal::Outside, None);
     }
-    let numbers = numbers::numbers_of(y);
-    let range = first_outside(numbers.capacity, ranges);
-    if range != 0 {
-        return ListWritten { refusal: 4, range };
+    let capacity = numbers::numbers_of(y).capacity;
+    if let Some(range) = first_outside(capacity, ranges) {
+        return refused(Refusal::Outside, Some(range));
     }
     if sum_of_lengths(ranges) != bytes.len() as u64 {
-        return ListWritten {
-            refusal: 5,
-            range: 0,
-        };
+        return refused(Refusal::BufferLength, None);
     }
     write_ranges(y, r, image, ranges, bytes);
-    ListWritten {
-        refusal: 0,
-        range: 0,
-    }
+    Ok(())
 }

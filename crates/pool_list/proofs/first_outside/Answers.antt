@@ -15,10 +15,10 @@ loop-i-init c = (omega arith, λ k b. absurd (not-suc-le-zero b))
 pub overflow_add-result : goal.overflow_add-result
 overflow_add-result c = omega (arith, c.requires, c.loop-i-test.true)
 
-pub returns-then-not-is_inside : goal.returns-then-not-is_inside
-returns-then-not-is_inside c = let i = c.loop-i.i in
+pub returns-then-not-is_inside-clause-some : goal.returns-then-not-is_inside-clause-some
+returns-then-not-is_inside-clause-some c = let i = c.loop-i.i in
     let f = failing_at _ _ i c.loop-i-test.true c.loop-i.invariant.1 (sym c.is_inside.ensures ∙ c.if-not-is_inside.true) in
-    omega (arith, f)
+    (omega arith, omega (arith, f))
 
 pub loop-i-preserved : goal.loop-i-preserved
 loop-i-preserved c = let s = c.args in
@@ -32,5 +32,5 @@ loop-i-preserved c = let s = c.args in
           ∙ sym c.is_inside.ensures ∙ c.if-not-is_inside.false),
     )
 
-pub returns : goal.returns
-returns c = sym (failing_none _ _ (λ k b. c.loop-i.invariant.1 k (omega (arith, b, c.loop-i-test.false))))
+pub returns-clause-none : goal.returns-clause-none
+returns-clause-none c = λ e. failing_none _ _ (λ k b. c.loop-i.invariant.1 k (omega (arith, b, c.loop-i-test.false)))
