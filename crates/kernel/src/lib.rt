@@ -24,7 +24,7 @@ fn add_block(out: &mut [u8], b: &[u8; 192], o: usize, m: usize)
 }
 
 // Puts the first m bytes of b in place of those from o on.
-pub fn put_block(out: &mut [u8], b: &[u8], o: usize, m: usize)
+fn put_block(out: &mut [u8], b: &[u8], o: usize, m: usize)
     requires { (m ≤ length b.now) × (o + m ≤ length out.old) }
     ensures { Span (λ y. get_or b.now (y - o) 0) o (o + m) out.old out.new }
 {
@@ -99,6 +99,7 @@ pub fn combine_put(
     let mut list = [0usize; 128];
     let schedule = Schedule::new(&mut list, starts, coefs, n, top);
     let mut o = 0;
+    // No `for`: the shorter blocks begin where the longer ones ended.
     while 320 <= len - o {
         let b = schedule.block(src, o, 192);
         put_block(out, &b, to + o, 192);
@@ -129,7 +130,8 @@ fn block_from(at: usize, end: usize) -> usize
 }
 
 // Puts into the `len` bytes from `at` on the sum of coefs[j] times the run that starts at starts[j], over j < n, by the same blocks. The runs lie apart
-// from those bytes.
+// from those bytes. A function of its own, since it reads the slice that it writes: one for both would take its blocks from a closure, and say what that
+// answers at every state of the slice.
 pub fn combine_in(
     buf: &mut [u8],
     at: usize,
@@ -145,6 +147,7 @@ pub fn combine_in(
     let mut list = [0usize; 128];
     let schedule = Schedule::new(&mut list, starts, coefs, n, top);
     let mut o = 0;
+    // No `for`: a block may begin before the end of the last.
     while 320 <= len - o {
         let from = block_from(at, o);
         let b = schedule.block(buf, from, 192);
