@@ -11,11 +11,9 @@ use numbers::Layout;
 use trial::{checksum, newline, number, text};
 
 fn print_units(rt: &impl Print, l: Units) {
-    let at = l.at;
-    let count = l.count;
-    number(rt, count as u64);
-    for i in 0..count % 5 {
-        number(rt, at[i]);
+    number(rt, l.list().len() as u64);
+    for &unit in l.list() {
+        number(rt, unit);
     }
 }
 
@@ -24,28 +22,22 @@ fn encode(rt: &impl Print, y: Layout, buffer: &mut [u8], len: usize) {
     if buffer.len() < len {
         return;
     }
-    let refusal = group::encode(y, &mut buffer[0..len]);
+    let answer = group::encode(y, &mut buffer[..len]);
     text(rt, b"encode");
-    number(rt, refusal);
-    number(rt, checksum(&buffer[0..len]));
+    number(rt, lists::answer_number(answer));
+    number(rt, checksum(&buffer[..len]));
     newline(rt);
 }
 
 // Rebuilds the first len bytes of the buffer, and prints the list and the answer.
 fn rebuild(rt: &impl Print, y: Layout, l: Units, buffer: &mut [u8], len: usize) {
-    let at = l.at;
-    let list = [at[0], at[1], at[2], at[3]];
-    let count = l.count;
-    if 4 < count {
-        return;
-    }
     if buffer.len() < len {
         return;
     }
-    let refusal = group::rebuild(y, &list[0..count], &mut buffer[0..len]);
+    let answer = group::rebuild(y, l.list(), &mut buffer[..len]);
     print_units(rt, l);
-    number(rt, refusal);
-    number(rt, checksum(&buffer[0..len]));
+    number(rt, lists::answer_number(answer));
+    number(rt, checksum(&buffer[..len]));
     newline(rt);
 }
 
@@ -58,10 +50,7 @@ fn scribble_unit(seed: &mut u64, v: u64, unit: u64, buffer: &mut [u8])
     }
     let start = drawn::times(v, unit) as usize;
     let end = drawn::times(v + 1, unit) as usize;
-    if buffer.len() < end {
-        return;
-    }
-    if end < start {
+    if buffer.len() < end || end < start {
         return;
     }
     trial::fill(seed, &mut buffer[start..end]);
@@ -71,10 +60,8 @@ fn scribble_unit(seed: &mut u64, v: u64, unit: u64, buffer: &mut [u8])
 fn scribble(seed: &mut u64, l: Units, unit: u64, buffer: &mut [u8])
     requires { unit ≤ 4096 }
 {
-    let at = l.at;
-    let count = l.count;
-    for i in 0..count % 5 {
-        scribble_unit(seed, at[i], unit, buffer);
+    for &v in l.list() {
+        scribble_unit(seed, v, unit, buffer);
     }
 }
 
@@ -108,7 +95,7 @@ fn agreeing(rt: &impl Print, seed: &mut u64, g: Group, buffer: &mut [u8], e: usi
         return;
     }
     let y = drawn::layout_of(g);
-    trial::fill(seed, &mut buffer[0..e]);
+    trial::fill(seed, &mut buffer[..e]);
     encode(rt, y, buffer, e);
     let l = drawn::units_by(seed, g);
     scribble(seed, l, g.u, buffer);
@@ -124,7 +111,7 @@ fn disagreeing(rt: &impl Print, seed: &mut u64, g: Group, buffer: &mut [u8], e: 
         return;
     }
     let y = drawn::layout_of(g);
-    trial::fill(seed, &mut buffer[0..e]);
+    trial::fill(seed, &mut buffer[..e]);
     let l = drawn::units_by(seed, g);
     text(rt, b"disagreeing");
     rebuild(rt, y, l, buffer, e);

@@ -5,8 +5,6 @@ ghost use Rattle.group_trial.specs.Bounds.{Bounded};
 use numbers::Layout;
 use trial::draw;
 
-const ONES: u64 = 18446744073709551615;
-
 // A group's N, K and U.
 #[derive(Clone, Copy)]
 pub struct Group {
@@ -18,8 +16,15 @@ pub struct Group {
 // At most four units.
 #[derive(Clone, Copy)]
 pub struct Units {
-    pub at: [u64; 4],
-    pub count: usize,
+    at: [u64; 4],
+    count: usize,
+    ghost few: { count ≤ 4 },
+}
+
+impl Units {
+    pub fn list(&self) -> &[u64] {
+        &self.at[..self.count]
+    }
 }
 
 // The product of a number of units and their size.
@@ -61,23 +66,18 @@ fn unit_bytes(seed: &mut u64) -> u64
     4096
 }
 
-// As many bytes as fit the buffer, and u at most.
-fn at_most(u: u64, most: u64) -> u64
-    ensures { result ≤ u }
-{
-    if most < u { most } else { u }
-}
-
 pub fn group_by(seed: &mut u64) -> Group
     ensures { Bounded result }
 {
     let n = 1 + draw(seed, 16);
     let k = draw(seed, 4);
     let u = unit_bytes(seed);
+
+    // As many bytes as fit the buffer.
     Group {
         n,
         k,
-        u: at_most(u, 65535 / (n + k)),
+        u: u.min(65535 / (n + k)),
     }
 }
 
@@ -102,14 +102,12 @@ pub fn units_by(seed: &mut u64, g: Group) -> Units
         at[i as usize] = draw(seed, contents);
     }
     let again = draw(seed, 4);
-    if again == 0 {
-        if 0 < m {
-            at[m as usize] = at[0];
-            return Units {
-                at,
-                count: m as usize + 1,
-            };
-        }
+    if again == 0 && 0 < m {
+        at[m as usize] = at[0];
+        return Units {
+            at,
+            count: m as usize + 1,
+        };
     }
     Units {
         at,
@@ -119,108 +117,46 @@ pub fn units_by(seed: &mut u64, g: Group) -> Units
 
 // ---- refused calls, by their kind
 
-fn refused_bytes(u: u64, kind: u64) -> u64 {
-    if kind == 5 {
-        return 0;
-    }
-    u
-}
-
-fn refused_edition(edition: u64, kind: u64) -> u64 {
-    if kind == 8 {
-        return 0;
-    }
-    if kind == 9 {
-        return 3;
-    }
-    edition
-}
-
 pub fn refused_layout(g: Group, kind: u64) -> Layout
     requires { Bounded g }
 {
     let y = layout_of(g);
-    Layout {
-        n: y.n,
-        k: y.k,
-        p: y.p,
-        u: refused_bytes(y.u, kind),
-        t: y.t,
-        cookie: y.cookie,
-        edition: refused_edition(y.edition, kind),
+    match kind {
+        5 => Layout { u: 0, ..y },
+        8 => Layout { edition: 0, ..y },
+        9 => Layout { edition: 3, ..y },
+        _ => y,
     }
 }
 
 pub fn refused_length(e: usize, kind: u64) -> usize
     requires { e ≤ 77824 }
 {
-    if kind == 3 {
-        if 0 < e {
-            return e - 1;
-        }
-        return 0;
+    match kind {
+        3 => e.saturating_sub(1),
+        4 | 6 => e + 1,
+        7 => 0,
+        _ => e,
     }
-    if kind == 4 {
-        return e + 1;
-    }
-    if kind == 6 {
-        return e + 1;
-    }
-    if kind == 7 {
-        return 0;
-    }
-    e
 }
 
-fn no_units() -> Units {
-    Units {
-        at: [0, 0, 0, 0],
-        count: 0,
-    }
+fn some_units(at: [u64; 4], count: usize) -> Units
+    requires { count ≤ 4 }
+{
+    Units { at, count }
 }
 
 pub fn refused_units(g: Group, kind: u64) -> Units
     requires { Bounded g }
 {
     let beyond = g.n + g.k;
-    if kind == 0 {
-        return Units {
-            at: [0, beyond, 0, 0],
-            count: 2,
-        };
-    }
-    if kind == 1 {
-        return Units {
-            at: [ONES, 0, 0, 0],
-            count: 1,
-        };
-    }
-    if kind == 3 {
-        return Units {
-            at: [0, 0, 0, 0],
-            count: 1,
-        };
-    }
-    if kind == 4 {
-        return no_units();
-    }
-    if kind == 8 {
-        return no_units();
-    }
-    if kind == 5 {
-        return Units {
-            at: [beyond, 0, 0, 0],
-            count: 1,
-        };
-    }
-    if kind == 6 {
-        return Units {
-            at: [0, 0, 0, beyond],
-            count: 4,
-        };
-    }
-    Units {
-        at: [0, 1, 2, 3],
-        count: g.k as usize + 1,
+    match kind {
+        0 => some_units([0, beyond, 0, 0], 2),
+        1 => some_units([u64::MAX, 0, 0, 0], 1),
+        3 => some_units([0, 0, 0, 0], 1),
+        4 | 8 => some_units([0, 0, 0, 0], 0),
+        5 => some_units([beyond, 0, 0, 0], 1),
+        6 => some_units([0, 0, 0, beyond], 4),
+        _ => some_units([0, 1, 2, 3], g.k as usize + 1),
     }
 }

@@ -10,7 +10,7 @@ fn next_sum(sum: u64, byte: u8) -> u64
     requires { sum < 2147483647 }
     ensures { result < 2147483647 }
 {
-    (sum * 31 + byte as u64 + 1) % 2147483647
+    (sum * 31 + u64::from(byte) + 1) % 2147483647
 }
 
 // How many lists of k units there are.
@@ -18,13 +18,11 @@ fn lists_of(m: u64, k: u64) -> u64
     requires { m ≤ 19 }
     ensures { result ≤ 6859 }
 {
-    if k == 1 {
-        return m;
+    match k {
+        1 => m,
+        2 => m * m,
+        _ => m * m * m,
     }
-    if k == 2 {
-        return m * m;
-    }
-    m * m * m
 }
 
 fn pattern(x: u64, i: u64) -> u8
@@ -37,8 +35,8 @@ fn pattern(x: u64, i: u64) -> u8
 fn lay(bytes: &mut [u8], x: u64)
     requires { (x < 6859) × (length bytes.old ≤ 19) }
 {
-    for i in 0..bytes.len() {
-        bytes[i] = pattern(x, i as u64);
+    for (i, byte) in bytes.iter_mut().enumerate() {
+        *byte = pattern(x, i as u64);
     }
 }
 
@@ -48,8 +46,8 @@ fn sum_over(start: u64, bytes: &[u8]) -> u64
     ensures { result < 2147483647 }
 {
     let mut sum = start;
-    for i in 0..bytes.len() {
-        sum = next_sum(sum, bytes[i]);
+    for &byte in bytes {
+        sum = next_sum(sum, byte);
     }
     sum
 }
@@ -66,11 +64,11 @@ fn one(buffer: &mut [u8], g: Group, x: u64, sum: u64) -> u64
     if buffer.len() < len {
         return sum;
     }
-    lay(&mut buffer[0..len], x);
+    lay(&mut buffer[..len], x);
     let y = drawn::layout_of(g);
-    let refusal = group::rebuild(y, &list[0..count], &mut buffer[0..len]);
-    let next = next_sum(sum, (refusal % 256) as u8);
-    sum_over(next, &buffer[0..len])
+    let answer = group::rebuild(y, &list[..count], &mut buffer[..len]);
+    let next = next_sum(sum, (lists::answer_number(answer) % 256) as u8);
+    sum_over(next, &buffer[..len])
 }
 
 fn size(rt: &impl Print, buffer: &mut [u8], g: Group)
