@@ -11,31 +11,18 @@ fn digit(x: u8) -> u8
     if x < 10 { 48 + x } else { 87 + x }
 }
 
-// The product of x and i, or the quotient of i by x.
-fn value(quotient: bool, x: u8, i: u8) -> u8 {
-    if quotient {
-        return field::div(i, x);
-    }
-    field::mul(x, i)
-}
-
 fn print_byte(rt: &impl Print, x: u8) {
     let both = [digit(x / 16), digit(x % 16)];
     text(rt, &both);
 }
 
-fn label(rt: &impl Print, quotient: bool) {
-    if quotient {
-        text(rt, b"quotient ");
-    } else {
-        text(rt, b"product ");
-    }
-}
-
-fn print_row(rt: &impl Print, quotient: bool, x: u8) {
+// The values at x and each byte.
+fn print_row<F: Fn(u8, u8) -> u8>(rt: &impl Print, value: &F, x: u8)
+    requires { F.IsAlwaysCallable value.now }
+{
     let mut line = [0u8; 512];
     for i in 0..256 {
-        let v = value(quotient, x, i as u8);
+        let v = value(x, i as u8);
         line[2 * i] = digit(v / 16);
         line[2 * i + 1] = digit(v % 16);
     }
@@ -45,10 +32,12 @@ fn print_row(rt: &impl Print, quotient: bool, x: u8) {
     newline(rt);
 }
 
-fn print_rows(rt: &impl Print, quotient: bool) {
-    for x in 0..256 {
-        label(rt, quotient);
-        print_row(rt, quotient, x as u8);
+fn print_rows<F: Fn(u8, u8) -> u8>(rt: &impl Print, label: &[u8], value: F)
+    requires { F.IsAlwaysCallable value }
+{
+    for x in 0..=u8::MAX {
+        text(rt, label);
+        print_row(rt, &value, x);
     }
 }
 
@@ -58,15 +47,15 @@ fn print_coefficients(rt: &impl Print, i: usize)
     text(rt, b"coefficients ");
     decimal(rt, i as u64);
     for j in 0..16 {
-        number(rt, systems::coef(i, j) as u64);
+        number(rt, u64::from(systems::coef(i, j)));
     }
     newline(rt);
 }
 
 fn main(rt: HostRuntime) {
-    print_rows(&rt, false);
-    print_rows(&rt, true);
-    print_coefficients(&rt, 0);
-    print_coefficients(&rt, 1);
-    print_coefficients(&rt, 2);
+    print_rows(&rt, b"product ", field::mul);
+    print_rows(&rt, b"quotient ", |x, i| field::div(i, x));
+    for i in 0..3 {
+        print_coefficients(&rt, i);
+    }
 }
