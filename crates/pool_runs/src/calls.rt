@@ -1,8 +1,53 @@
-// The calls on a pool, each printed with its answer.
+// The calls on a pool, each printed with its answer, and then the pool.
 use homes::Record;
+use lists::answer_number;
 use numbers::{Layout, Numbers};
-use row_trial::{no_failures, with_count};
-use trial::{checksum, newline, number, text};
+use pool_count::PanelCounts;
+use pool_repair::Mended;
+use row_trial::no_failures;
+use std::{fmt, io};
+use trial::checksum;
+
+// A record as it is printed: its entries, and its three counts.
+#[derive(Clone, Copy)]
+pub struct Counted(pub Record);
+
+impl fmt::Display for Counted {
+    fn fmt<W: fmt::Write>(&self, f: &mut fmt::Formatter<W>) -> fmt::Result {
+        let r = self.0;
+        let [first, second, third] = r.failed;
+        write!(f, "{first} {second} {third} {} {} {}", r.k, r.q, r.waiting)
+    }
+}
+
+// The first bytes of a buffer, all of it where there are fewer.
+pub fn front(buffer: &mut [u8], length: u64) -> &mut [u8] {
+    let size = buffer.len().min(length as usize);
+    &mut buffer[..size]
+}
+
+const NO_COUNTS: PanelCounts = PanelCounts {
+    waiting: 0,
+    failed: 0,
+    repaired: 0,
+};
+
+// What the panel shows, and the audit's answer.
+pub fn say_panel(rt: &impl Print, y: Layout, rec: Record, image: &[u8]) -> io::Result<()> {
+    let shown = pool_count::panel(y, rec, image);
+    let refusal = answer_number(shown);
+    let counts = shown.unwrap_or(NO_COUNTS);
+    println!(rt;
+        "panel {refusal} {} {} {}",
+        counts.waiting, counts.failed, counts.repaired
+    )?;
+    println!(rt; "audit {}", answer_number(pool_count::audit(y, rec, image)))
+}
+
+// What a refused repair leaves.
+pub fn unmended(rec: Record) -> Mended {
+    Mended { count: 0, rec }
+}
 
 // A pool's layout with its numbers, and the record that the last call returned.
 #[derive(Clone, Copy)]
@@ -13,216 +58,150 @@ pub struct Run {
 }
 
 impl Run {
+    // With an empty failure list.
+    pub fn new(y: Layout) -> Self {
+        Run {
+            y,
+            numbers: layout::measure(y).unwrap_or_default(),
+            rec: no_failures(),
+        }
+    }
+
     pub fn with(self, rec: Record) -> Self {
+        Run { rec, ..self }
+    }
+
+    // T·C·(N+K), the contents of the whole pool.
+    pub fn contents(self) -> u64 {
+        let a_group = self.y.n.wrapping_add(self.y.k);
+        self.numbers.groups.wrapping_mul(a_group)
+    }
+
+    // Entry i of the record.
+    pub fn entry(self, i: u64) -> u64 {
+        self.rec.failed.get(i as usize).copied().unwrap_or(0)
+    }
+
+    // ---- the lines between the events
+
+    pub fn head(self, rt: &impl Print, i: u64, image: &[u8]) -> io::Result<()> {
         let y = self.y;
-        let numbers = self.numbers;
-        Run { y, numbers, rec }
+        print!(rt; "run {i} {} {} {} {} {}", y.n, y.k, y.p, y.u, y.t)?;
+        println!(rt; " {} {}", y.cookie, y.edition)?;
+        self.pool(rt, image)
     }
-}
 
-// T·C·(N+K), the contents of the whole pool.
-pub fn contents(run: Run) -> u64 {
-    let a_group = std::num::wrapping_add_u64(run.y.n, run.y.k);
-    tile::wrapping_mul(run.numbers.groups, a_group)
-}
-
-// A run with an empty failure list.
-pub fn begin(y: Layout) -> Run {
-    let measured = layout::measure(y);
-    let numbers = measured.numbers;
-    let rec = no_failures();
-    Run { y, numbers, rec }
-}
-
-// The first bytes of a buffer, all of it where there are fewer.
-pub fn front(buffer: &mut [u8], length: u64) -> &mut [u8] {
-    let size = length as usize;
-    if size <= buffer.len() {
-        return &mut buffer[..size];
+    pub fn pool(self, rt: &impl Print, image: &[u8]) -> io::Result<()> {
+        println!(rt; "pool {} {}", checksum(image), Counted(self.rec))
     }
-    buffer
-}
 
-// Entry i of a record.
-pub fn entry(rec: Record, i: u64) -> u64 {
-    let failed = rec.failed;
-    if i < 3 {
-        return failed[i as usize];
+    // ---- the calls
+
+    pub fn write(
+        self,
+        rt: &impl Print,
+        image: &mut [u8],
+        offset: u64,
+        bytes: &[u8],
+    ) -> io::Result<()> {
+        let written = pool_write::write(self.y, self.rec, image, offset, bytes);
+        println!(rt; "write {offset} {} {}", bytes.len(), answer_number(written))?;
+        self.pool(rt, image)
     }
-    0
-}
 
-// What a buffer holds before a call that fills it.
-pub fn stain(buffer: &mut [u8]) {
-    for i in 0..buffer.len() {
-        buffer[i] = 170;
+    pub fn read(
+        self,
+        rt: &impl Print,
+        image: &[u8],
+        offset: u64,
+        out: &mut [u8],
+    ) -> io::Result<()> {
+        out.fill(0xaa);
+        let refusal = answer_number(pool_read::read(self.y, self.rec, image, offset, out));
+        println!(rt; "read {offset} {} {refusal} {}", out.len(), checksum(out))?;
+        self.pool(rt, image)
     }
-}
 
-// ---- the lines between the events
+    pub fn fail(self, rt: &impl Print, image: &[u8], target: u64) -> io::Result<Self> {
+        let failed = pool_fail::fail(self.y, self.rec, image, target);
+        println!(rt; "fail {target} {}", answer_number(failed))?;
+        let after = self.with(failed.unwrap_or(self.rec));
+        after.pool(rt, image)?;
+        Ok(after)
+    }
 
-pub fn head(rt: &impl Print, i: u64, y: Layout) {
-    text(rt, b"run");
-    number(rt, i);
-    number(rt, y.n);
-    number(rt, y.k);
-    number(rt, y.p);
-    number(rt, y.u);
-    number(rt, y.t);
-    number(rt, y.cookie);
-    number(rt, y.edition);
-    newline(rt);
-}
+    pub fn repair(self, rt: &impl Print, image: &mut [u8]) -> io::Result<Self> {
+        let repaired = pool_repair::repair(self.y, self.rec, image);
+        let Mended { count, rec } = repaired.unwrap_or(unmended(self.rec));
+        println!(rt; "repair {} {count}", answer_number(repaired))?;
+        let after = self.with(rec);
+        after.pool(rt, image)?;
+        Ok(after)
+    }
 
-pub fn record(rt: &impl Print, rec: Record) {
-    let failed = rec.failed;
-    number(rt, failed[0]);
-    number(rt, failed[1]);
-    number(rt, failed[2]);
-    number(rt, rec.k);
-    number(rt, rec.q);
-    number(rt, rec.waiting);
-}
+    pub fn swap(self, rt: &impl Print, image: &mut [u8], target: u64) -> io::Result<Self> {
+        let swapped = pool_swap::swap(self.y, self.rec, image, target);
+        println!(rt; "swap {target} {}", answer_number(swapped))?;
+        let after = self.with(swapped.unwrap_or(self.rec));
+        after.pool(rt, image)?;
+        Ok(after)
+    }
 
-pub fn pool(rt: &impl Print, run: Run, image: &[u8]) {
-    text(rt, b"pool");
-    number(rt, checksum(image));
-    let rec = run.rec;
-    record(rt, rec);
-    newline(rt);
-}
+    // A look, and its shown part: the refusal, its length and its checksum.
+    pub fn look(
+        self,
+        rt: &impl Print,
+        image: &[u8],
+        group: u64,
+        content: u64,
+        scratch: &mut [u8],
+    ) -> io::Result<()> {
+        scratch.fill(0xaa);
+        let prepared = pool_look::prepare(self.y, self.rec, image, group, content, scratch);
+        print!(rt;
+            "look {group} {content} {} {}",
+            scratch.len(),
+            answer_number(prepared)
+        )?;
+        print!(rt; " {}", checksum(scratch))?;
+        let mut answer = 0;
+        let shown = pool_look::show(
+            self.y,
+            self.rec,
+            image,
+            scratch,
+            group,
+            content,
+            &mut answer,
+        );
+        println!(rt; " {answer} {} {}", shown.len(), checksum(shown))?;
+        self.pool(rt, image)
+    }
 
-// ---- the calls
+    pub fn panel(self, rt: &impl Print, image: &[u8]) -> io::Result<()> {
+        say_panel(rt, self.y, self.rec, image)?;
+        self.pool(rt, image)
+    }
 
-pub fn write(rt: &impl Print, run: Run, image: &mut [u8], offset: u64, bytes: &[u8]) {
-    let y = run.y;
-    let rec = run.rec;
-    let refusal = pool_write::write(y, rec, image, offset, bytes);
-    text(rt, b"write");
-    number(rt, offset);
-    number(rt, bytes.len() as u64);
-    number(rt, refusal);
-    newline(rt);
-}
+    // ---- others
 
-pub fn read(rt: &impl Print, run: Run, image: &[u8], offset: u64, out: &mut [u8]) {
-    let y = run.y;
-    let rec = run.rec;
-    stain(out);
-    let refusal = pool_read::read(y, rec, image, offset, out);
-    text(rt, b"read");
-    number(rt, offset);
-    number(rt, out.len() as u64);
-    number(rt, refusal);
-    number(rt, checksum(out));
-    newline(rt);
-}
+    // The run goes on with another count.
+    pub fn count(self, rt: &impl Print, image: &[u8], waiting: u64) -> io::Result<Self> {
+        println!(rt; "count {waiting}")?;
+        let after = self.with(Record {
+            waiting,
+            ..self.rec
+        });
+        after.pool(rt, image)?;
+        Ok(after)
+    }
 
-pub fn fail(rt: &impl Print, run: Run, image: &[u8], target: u64) -> Run {
-    let y = run.y;
-    let rec = run.rec;
-    let answer = pool_fail::fail(y, rec, image, target);
-    text(rt, b"fail");
-    number(rt, target);
-    number(rt, answer.refusal);
-    newline(rt);
-    let after = answer.rec;
-    run.with(after)
-}
-
-pub fn repair(rt: &impl Print, run: Run, image: &mut [u8]) -> Run {
-    let y = run.y;
-    let rec = run.rec;
-    let answer = pool_repair::repair(y, rec, image);
-    text(rt, b"repair");
-    number(rt, answer.refusal);
-    number(rt, answer.count);
-    newline(rt);
-    let after = answer.rec;
-    run.with(after)
-}
-
-pub fn swap(rt: &impl Print, run: Run, image: &mut [u8], target: u64) -> Run {
-    let y = run.y;
-    let rec = run.rec;
-    let answer = pool_swap::swap(y, rec, image, target);
-    text(rt, b"swap");
-    number(rt, target);
-    number(rt, answer.refusal);
-    newline(rt);
-    let after = answer.rec;
-    run.with(after)
-}
-
-pub fn look(rt: &impl Print, run: Run, image: &[u8], group: u64, content: u64, scratch: &mut [u8]) {
-    let y = run.y;
-    let rec = run.rec;
-    stain(scratch);
-    let refusal = pool_look::prepare(y, rec, image, group, content, scratch);
-    text(rt, b"look");
-    number(rt, group);
-    number(rt, content);
-    number(rt, scratch.len() as u64);
-    number(rt, refusal);
-    number(rt, checksum(scratch));
-    show(rt, run, image, group, content, scratch);
-    newline(rt);
-}
-
-// The shown part: the refusal, its length and its checksum.
-fn show<'a>(
-    rt: &impl Print,
-    run: Run,
-    image: &'a [u8],
-    group: u64,
-    content: u64,
-    scratch: &'a [u8],
-) {
-    let y = run.y;
-    let rec = run.rec;
-    let mut answer: u64 = 0;
-    let shown = pool_look::show(y, rec, image, scratch, group, content, &mut answer);
-    let length = shown.len() as u64;
-    let sum = checksum(shown);
-    number(rt, answer);
-    number(rt, length);
-    number(rt, sum);
-}
-
-// What the panel shows, and the audit's answer.
-pub fn panel(rt: &impl Print, y: Layout, rec: Record, image: &[u8]) {
-    let shown = pool_count::panel(y, rec, image);
-    text(rt, b"panel");
-    number(rt, shown.refusal);
-    number(rt, shown.waiting);
-    number(rt, shown.failed);
-    number(rt, shown.repaired);
-    newline(rt);
-    let audited = pool_count::audit(y, rec, image);
-    text(rt, b"audit");
-    number(rt, audited);
-    newline(rt);
-}
-
-// ---- others
-
-// The run goes on with another count.
-pub fn count(rt: &impl Print, run: Run, waiting: u64) -> Run {
-    text(rt, b"count");
-    number(rt, waiting);
-    newline(rt);
-    let rec = run.rec;
-    run.with(with_count(rec, waiting))
-}
-
-// Any bytes on the whole of one target.
-pub fn scribble(run: Run, image: &mut [u8], target: u64, seed: &mut u64) {
-    let size = tile::wrapping_mul(run.numbers.frames, run.y.u) as usize;
-    let from = tile::wrapping_mul(target, size as u64) as usize;
-    if from <= image.len() {
-        if size <= image.len() - from {
-            let end = from + size;
-            trial::fill(seed, &mut image[from..end]);
+    // Any bytes on the whole of one target.
+    pub fn scribble(self, image: &mut [u8], target: u64, seed: &mut u64) {
+        let size = self.numbers.frames.wrapping_mul(self.y.u) as usize;
+        let from = target.wrapping_mul(size as u64) as usize;
+        if from <= image.len() && size <= image.len() - from {
+            trial::fill(seed, &mut image[from..from + size]);
         }
     }
 }

@@ -1,83 +1,52 @@
 // What is drawn: layouts, starts, ranges, targets, looks and counts.
+ghost use Rattle.std.specs.Prelude.{◌≤◌};
+
 use crate::calls::Run;
 use homes::Record;
 use numbers::Layout;
 use trial::draw;
 
-const ONES: u64 = 18446744073709551615;
-
-pub fn least(a: u64, b: u64) -> u64 {
-    if a < b { a } else { b }
-}
-
 // A number below n, or 0 where there is none.
-pub fn below(seed: &mut u64, n: u64) -> u64 {
-    if n == 0 {
-        return 0;
-    }
-    draw(seed, n)
+fn below(seed: &mut u64, n: u64) -> u64
+    ensures { result ≤ n }
+{
+    if n == 0 { 0 } else { draw(seed, n) }
 }
 
-fn rem(a: u64, b: u64) -> u64 {
-    if b == 0 {
-        return 0;
-    }
-    a % b
-}
-
-fn quotient(a: u64, b: u64) -> u64 {
-    if b == 0 {
-        return 0;
-    }
-    a / b
-}
-
-fn plus(a: u64, b: u64) -> u64 {
-    std::num::wrapping_add_u64(a, b)
-}
-
-fn minus(a: u64, b: u64) -> u64 {
-    std::num::wrapping_sub_u64(a, b)
-}
-
-fn times(a: u64, b: u64) -> u64 {
-    tile::wrapping_mul(a, b)
-}
+// ---- layouts and starts
 
 fn targets(w: u64, seed: &mut u64) -> u64 {
-    if draw(seed, 2) == 0 {
-        return plus(w, draw(seed, 4));
-    }
-    plus(w, below(seed, minus(65, w)))
+    let more = if draw(seed, 2) == 0 {
+        draw(seed, 4)
+    } else {
+        below(seed, 65u64.wrapping_sub(w))
+    };
+    w.wrapping_add(more)
 }
 
 fn limit(seed: &mut u64) -> u64 {
-    if draw(seed, 8) == 0 {
-        return 65535;
-    }
-    4096
+    if draw(seed, 8) == 0 { 65535 } else { 4096 }
 }
 
 fn unit_bytes(most: u64, seed: &mut u64) -> u64 {
-    if draw(seed, 2) == 0 {
-        return plus(1, below(seed, least(most, 4096)));
-    }
-    plus(1, below(seed, least(most, 8)))
+    let longest = if draw(seed, 2) == 0 { 4096 } else { 8 };
+    1 + below(seed, most.min(longest))
 }
 
 fn units_of_a_tile(w: u64, p: u64) -> u64 {
-    times(quotient(w, numbers::gcd(w, p)), p)
+    let periods = w.checked_div(numbers::gcd(w, p)).unwrap_or(0);
+    periods.wrapping_mul(p)
 }
 
 // A layout whose image has at most 65,535 bytes.
 pub fn layout(seed: &mut u64) -> Layout {
     let n = 1 + draw(seed, 16);
-    let k = least(3, (draw(seed, 8) + 1) / 2);
-    let w = plus(n, times(2, k));
+    let k = ((draw(seed, 8) + 1) / 2).min(3);
+    let w = n + 2 * k;
     let p = targets(w, seed);
-    let most = quotient(limit(seed), units_of_a_tile(w, p));
+    let most = limit(seed).checked_div(units_of_a_tile(w, p)).unwrap_or(0);
     let u = unit_bytes(most, seed);
-    let t = plus(1, below(seed, least(quotient(most, u), 32)));
+    let t = 1 + below(seed, most.checked_div(u).unwrap_or(0).min(32));
     let cookie = trial::high(seed);
     let edition = 1 + draw(seed, 2);
     Layout {
@@ -91,56 +60,54 @@ pub fn layout(seed: &mut u64) -> Layout {
     }
 }
 
-// One entry of the list more, by a fail, where it has fewer than k.
-fn one_more(run: Run, image: &[u8], k: u64) -> Run {
-    let y = run.y;
-    let rec = run.rec;
-    let now = rec.k;
-    if k <= now {
-        return run;
+// The list grown to k entries by fails, of which there are at most three: so the count is the true one.
+fn grown(start: Run, image: &[u8], k: u64) -> Run {
+    let mut run = start;
+    for _ in 0..3 {
+        if run.rec.k < k {
+            let target = run.entry(run.rec.k);
+            run = run.with(pool_fail::fail(run.y, run.rec, image, target).unwrap_or(run.rec));
+        }
     }
-    let answer = pool_fail::fail(y, rec, image, crate::calls::entry(rec, now));
-    let after = answer.rec;
-    run.with(after)
+    run
 }
 
-// The list grown to k entries, of which there are at most three: so the count is the true one.
-fn grown(run: Run, image: &[u8], k: u64) -> Run {
-    let one = one_more(run, image, k);
-    let two = one_more(one, image, k);
-    one_more(two, image, k)
+// No failure, in a list that holds something.
+fn unused_list(seed: &mut u64) -> Record {
+    let second = draw(seed, 64);
+    let third = draw(seed, 64);
+    Record {
+        failed: [u64::MAX, second, third],
+        k: 0,
+        q: 0,
+        waiting: 0,
+    }
 }
 
-// The record and the image that a run starts with.
-pub fn start(run: Run, image: &mut [u8], seed: &mut u64) -> Run {
-    let kind = draw(seed, 4);
-    if kind < 2 {
-        return run;
-    }
-    if kind == 2 {
-        let second = draw(seed, 64);
-        let third = draw(seed, 64);
-        return run.with(Record {
-            failed: [ONES, second, third],
-            k: 0,
-            q: 0,
-            waiting: 0,
-        });
-    }
+// Some targets in a row have failed, the first q of them are repaired, and the image has any bytes.
+fn failed_targets(run: Run, image: &mut [u8], seed: &mut u64) -> Run {
     let p = run.y.p;
-    let x = below(seed, p);
-    let k = below(seed, plus(run.y.k, 1));
-    let q = below(seed, plus(k, 1));
-    let second = rem(plus(x, 1), p);
-    let third = rem(plus(x, 2), p);
-    trial::fill(seed, image);
+    let first = below(seed, p);
+    let k = below(seed, run.y.k.wrapping_add(1));
+    let q = below(seed, k.wrapping_add(1));
+    let target = |i: u64| first.wrapping_add(i).checked_rem(p).unwrap_or(0);
     let repaired = run.with(Record {
-        failed: [x, second, third],
+        failed: [first, target(1), target(2)],
         k: q,
         q,
         waiting: 0,
     });
+    trial::fill(seed, image);
     grown(repaired, image, k)
+}
+
+// The record and the image that a run starts with.
+pub fn start(run: Run, image: &mut [u8], seed: &mut u64) -> Run {
+    match draw(seed, 4) {
+        0 | 1 => run,
+        2 => run.with(unused_list(seed)),
+        _ => failed_targets(run, image, seed),
+    }
 }
 
 // ---- ranges
@@ -152,60 +119,38 @@ pub struct Extent {
 }
 
 fn offset(capacity: u64, seed: &mut u64) -> u64 {
-    let kind = draw(seed, 16);
-    if kind < 2 {
-        return 0;
+    match draw(seed, 16) {
+        0 | 1 => 0,
+        2 => capacity,
+        3 => capacity.wrapping_sub(1),
+        4 => capacity.wrapping_add(1),
+        5 => u64::MAX,
+        _ => trial::wide(seed).checked_rem(capacity).unwrap_or(0),
     }
-    if kind == 2 {
-        return capacity;
-    }
-    if kind == 3 {
-        return minus(capacity, 1);
-    }
-    if kind == 4 {
-        return plus(capacity, 1);
-    }
-    if kind == 5 {
-        return ONES;
-    }
-    rem(trial::wide(seed), capacity)
 }
 
-fn length(run: Run, left: u64, seed: &mut u64) -> u64 {
-    let kind = draw(seed, 8);
-    let u = run.y.u;
-    if kind == 0 {
-        return 0;
+fn length(y: Layout, left: u64, seed: &mut u64) -> u64 {
+    match draw(seed, 8) {
+        0 => 0,
+        1 => 1,
+        2 | 3 => 1 + below(seed, y.u.wrapping_mul(3).min(4096)),
+        4..=6 => 1 + below(seed, y.n.wrapping_mul(3).wrapping_mul(y.u).min(32768)),
+        _ => left,
     }
-    if kind == 1 {
-        return 1;
-    }
-    if kind < 4 {
-        return plus(1, below(seed, least(times(3, u), 4096)));
-    }
-    if kind < 7 {
-        return plus(1, below(seed, least(times(times(3, run.y.n), u), 32768)));
-    }
-    left
 }
 
+// Mostly within the file, where it begins there.
 pub fn range(run: Run, seed: &mut u64) -> Extent {
     let capacity = run.numbers.capacity;
-    let at = offset(capacity, seed);
-    let mut left: u64 = 0;
-    if at <= capacity {
-        left = minus(capacity, at);
-    }
-    let mut size = length(run, left, seed);
-    if draw(seed, 8) != 0 {
-        if at <= capacity {
-            size = least(size, left);
-        }
-    }
-    Extent {
-        offset: at,
-        length: size,
-    }
+    let offset = offset(capacity, seed);
+    let left = capacity.saturating_sub(offset);
+    let any = length(run.y, left, seed);
+    let length = if draw(seed, 8) != 0 && offset <= capacity {
+        any.min(left)
+    } else {
+        any
+    };
+    Extent { offset, length }
 }
 
 // ---- counts
@@ -213,50 +158,35 @@ pub fn range(run: Run, seed: &mut u64) -> Extent {
 // Another count: beside the one that stands there, at the bound, or a little below that, where a fail may raise it up
 // to the bound or above.
 pub fn count(run: Run, seed: &mut u64) -> u64 {
-    let kind = draw(seed, 4);
     let now = run.rec.waiting;
-    let most = crate::calls::contents(run);
-    if kind == 0 {
-        return minus(now, least(now, 1));
+    let most = run.contents();
+    match draw(seed, 4) {
+        0 => now.saturating_sub(1),
+        1 => most.min(now.wrapping_add(1)),
+        2 => most,
+        _ => most.wrapping_sub(below(seed, run.numbers.frames.wrapping_add(1))),
     }
-    if kind == 1 {
-        return least(most, plus(now, 1));
-    }
-    if kind == 2 {
-        return most;
-    }
-    minus(most, below(seed, plus(run.numbers.frames, 1)))
 }
 
 // ---- targets and looks
 
 pub fn target(run: Run, seed: &mut u64) -> u64 {
-    let kind = draw(seed, 16);
-    if kind == 0 {
-        return run.y.p;
+    match draw(seed, 16) {
+        0 => run.y.p,
+        1 => u64::MAX,
+        2 | 3 => run.entry(0),
+        _ => below(seed, run.y.p),
     }
-    if kind == 1 {
-        return ONES;
-    }
-    if kind < 4 {
-        return crate::calls::entry(run.rec, 0);
-    }
-    below(seed, run.y.p)
 }
 
 // Mostly a drive of the list.
 pub fn swapped(run: Run, seed: &mut u64) -> u64 {
-    let kind = draw(seed, 16);
-    if kind == 0 {
-        return run.y.p;
+    match draw(seed, 16) {
+        0 => run.y.p,
+        1 => u64::MAX,
+        2 | 3 => below(seed, run.y.p),
+        _ => run.entry(below(seed, run.rec.k)),
     }
-    if kind == 1 {
-        return ONES;
-    }
-    if kind < 4 {
-        return below(seed, run.y.p);
-    }
-    crate::calls::entry(run.rec, below(seed, run.rec.k))
 }
 
 #[derive(Clone, Copy)]
@@ -266,46 +196,34 @@ pub struct View {
     pub length: u64,
 }
 
-fn group(run: Run, seed: &mut u64) -> u64 {
-    let kind = draw(seed, 16);
-    if kind == 0 {
-        return run.numbers.groups;
+fn group(groups: u64, seed: &mut u64) -> u64 {
+    match draw(seed, 16) {
+        0 => groups,
+        1 => u64::MAX,
+        _ => trial::wide(seed).checked_rem(groups).unwrap_or(0),
     }
-    if kind == 1 {
-        return ONES;
-    }
-    rem(trial::wide(seed), run.numbers.groups)
 }
 
 fn content(m: u64, seed: &mut u64) -> u64 {
-    let kind = draw(seed, 16);
-    if kind == 0 {
-        return m;
+    match draw(seed, 16) {
+        0 => m,
+        1 => u64::MAX,
+        _ => below(seed, m),
     }
-    if kind == 1 {
-        return ONES;
-    }
-    below(seed, m)
 }
 
 fn scratch(u: u64, seed: &mut u64) -> u64 {
-    let kind = draw(seed, 16);
-    if kind == 0 {
-        return minus(u, 1);
+    match draw(seed, 16) {
+        0 => u.wrapping_sub(1),
+        1 => u.wrapping_add(1),
+        _ => u,
     }
-    if kind == 1 {
-        return plus(u, 1);
-    }
-    u
 }
 
 pub fn look(run: Run, seed: &mut u64) -> View {
-    let g = group(run, seed);
-    let c = content(plus(run.y.n, run.y.k), seed);
-    let size = scratch(run.y.u, seed);
     View {
-        group: g,
-        content: c,
-        length: size,
+        group: group(run.numbers.groups, seed),
+        content: content(run.y.n.wrapping_add(run.y.k), seed),
+        length: scratch(run.y.u, seed),
     }
 }

@@ -8,255 +8,178 @@ mod drawn;
 mod fixed;
 
 use calls::Run;
-use trial::{draw, newline, number, text};
+use std::io;
+use trial::draw;
 
 // ---- events
 
-fn write_event(rt: &impl Print, run: Run, image: &mut [u8], buffer: &mut [u8], seed: &mut u64) {
+fn write_event(
+    rt: &impl Print,
+    run: Run,
+    image: &mut [u8],
+    buffer: &mut [u8],
+    seed: &mut u64,
+) -> io::Result<()> {
     let range = drawn::range(run, seed);
     let bytes = calls::front(buffer, range.length);
     trial::fill(seed, bytes);
-    calls::write(rt, run, image, range.offset, bytes);
+    run.write(rt, image, range.offset, bytes)
 }
 
-fn read_event(rt: &impl Print, run: Run, image: &[u8], buffer: &mut [u8], seed: &mut u64) {
+fn read_event(
+    rt: &impl Print,
+    run: Run,
+    image: &[u8],
+    buffer: &mut [u8],
+    seed: &mut u64,
+) -> io::Result<()> {
     let range = drawn::range(run, seed);
-    calls::read(
-        rt,
-        run,
-        image,
-        range.offset,
-        calls::front(buffer, range.length),
-    );
+    run.read(rt, image, range.offset, calls::front(buffer, range.length))
 }
 
-fn look_event(rt: &impl Print, run: Run, image: &[u8], buffer: &mut [u8], seed: &mut u64) {
+fn look_event(
+    rt: &impl Print,
+    run: Run,
+    image: &[u8],
+    buffer: &mut [u8],
+    seed: &mut u64,
+) -> io::Result<()> {
     let look = drawn::look(run, seed);
-    calls::look(
-        rt,
-        run,
-        image,
-        look.group,
-        look.content,
-        calls::front(buffer, look.length),
-    );
+    let scratch = calls::front(buffer, look.length);
+    run.look(rt, image, look.group, look.content, scratch)
 }
 
 // Others put any bytes on the whole of one failed target.
-fn scribble_event(rt: &impl Print, run: Run, image: &mut [u8], seed: &mut u64) {
-    let k = run.rec.k;
-    if k == 0 {
-        text(rt, b"idle\n");
-        return;
+fn scribble_event(rt: &impl Print, run: Run, image: &mut [u8], seed: &mut u64) -> io::Result<()> {
+    match run.rec.k {
+        0 => println!(rt; "idle")?,
+        k => {
+            let target = run.entry(draw(seed, k));
+            println!(rt; "scribble {target}")?;
+            run.scribble(image, target, seed);
+        }
     }
-    let i = draw(seed, k);
-    let target = calls::entry(run.rec, i);
-    text(rt, b"scribble");
-    number(rt, target);
-    newline(rt);
-    calls::scribble(run, image, target, seed);
+    run.pool(rt, image)
 }
 
-fn event(rt: &impl Print, run: Run, image: &mut [u8], buffer: &mut [u8], seed: &mut u64) -> Run {
-    let kind = draw(seed, 20);
-    if kind < 5 {
-        write_event(rt, run, image, buffer, seed);
-        return run;
+fn bad_event(
+    rt: &impl Print,
+    run: Run,
+    image: &mut [u8],
+    buffer: &mut [u8],
+    kind: u64,
+) -> io::Result<()> {
+    bad::event(rt, run, image, buffer, kind)?;
+    run.pool(rt, image)
+}
+
+fn event(
+    rt: &impl Print,
+    run: Run,
+    image: &mut [u8],
+    buffer: &mut [u8],
+    seed: &mut u64,
+) -> io::Result<Run> {
+    match draw(seed, 20) {
+        0..=4 => write_event(rt, run, image, buffer, seed)?,
+        5..=7 => read_event(rt, run, image, buffer, seed)?,
+        8..=10 => return run.fail(rt, image, drawn::target(run, seed)),
+        11 => return run.repair(rt, image),
+        12 | 13 => look_event(rt, run, image, buffer, seed)?,
+        14 => scribble_event(rt, run, image, seed)?,
+        15 => bad_event(rt, run, image, buffer, draw(seed, 15))?,
+        16 => run.panel(rt, image)?,
+        17 => return run.count(rt, image, drawn::count(run, seed)),
+        _ => return run.swap(rt, image, drawn::swapped(run, seed)),
     }
-    if kind < 8 {
-        read_event(rt, run, image, buffer, seed);
-        return run;
-    }
-    if kind < 11 {
-        return calls::fail(rt, run, image, drawn::target(run, seed));
-    }
-    if kind == 11 {
-        return calls::repair(rt, run, image);
-    }
-    if kind < 14 {
-        look_event(rt, run, image, buffer, seed);
-        return run;
-    }
-    if kind == 14 {
-        scribble_event(rt, run, image, seed);
-        return run;
-    }
-    if kind == 15 {
-        bad::event(rt, run, image, buffer, draw(seed, 15));
-        return run;
-    }
-    if kind == 16 {
-        calls::panel(rt, run.y, run.rec, image);
-        return run;
-    }
-    if kind == 17 {
-        return calls::count(rt, run, drawn::count(run, seed));
-    }
-    calls::swap(rt, run, image, drawn::swapped(run, seed))
+    Ok(run)
 }
 
 // ---- runs
 
-fn one_event(
+fn read_all(rt: &impl Print, run: Run, image: &[u8], buffer: &mut [u8]) -> io::Result<()> {
+    run.read(rt, image, 0, calls::front(buffer, run.numbers.capacity))
+}
+
+fn drawn_run(
     rt: &impl Print,
-    run: Run,
-    image: &mut [u8],
+    i: u64,
+    space: &mut [u8],
     buffer: &mut [u8],
     seed: &mut u64,
-) -> Run {
-    let after = event(rt, run, image, buffer, seed);
-    calls::pool(rt, after, image);
-    after
-}
-
-fn events(rt: &impl Print, start: Run, image: &mut [u8], buffer: &mut [u8], seed: &mut u64) -> Run {
-    let mut run = start;
-    for i in 0u64..14 {
-        run = one_event(rt, run, image, buffer, seed);
-    }
-    run
-}
-
-fn read_all(rt: &impl Print, run: Run, image: &[u8], buffer: &mut [u8]) {
-    calls::read(
-        rt,
-        run,
-        image,
-        0,
-        calls::front(buffer, run.numbers.capacity),
-    );
-    calls::pool(rt, run, image);
-}
-
-fn drawn_run(rt: &impl Print, i: u64, space: &mut [u8], buffer: &mut [u8], seed: &mut u64) {
-    let y = drawn::layout(seed);
-    let fresh = calls::begin(y);
+) -> io::Result<()> {
+    let fresh = Run::new(drawn::layout(seed));
     let image = calls::front(space, fresh.numbers.image);
-    lists::clear(image);
-    let run = drawn::start(fresh, image, seed);
-    calls::head(rt, i, y);
-    calls::pool(rt, run, image);
-    let last = events(rt, run, image, buffer, seed);
-    read_all(rt, last, image, buffer);
-}
-
-fn drawn_runs(rt: &impl Print, space: &mut [u8], buffer: &mut [u8], seed: &mut u64) {
-    for i in 4u64..404 {
-        drawn_run(rt, i, space, buffer, seed);
+    image.fill(0);
+    let mut run = drawn::start(fresh, image, seed);
+    run.head(rt, i, image)?;
+    for _ in 0..14 {
+        run = event(rt, run, image, buffer, seed)?;
     }
+    read_all(rt, run, image, buffer)
 }
 
 // ---- years
 
-fn lose(rt: &impl Print, run: Run, image: &[u8], seed: &mut u64) -> Run {
-    let after = calls::fail(rt, run, image, drawn::target(run, seed));
-    calls::pool(rt, after, image);
-    after
+fn lose(rt: &impl Print, run: Run, image: &[u8], seed: &mut u64) -> io::Result<Run> {
+    run.fail(rt, image, drawn::target(run, seed))
 }
 
-fn swap(rt: &impl Print, run: Run, image: &mut [u8], seed: &mut u64) -> Run {
-    let after = calls::swap(rt, run, image, drawn::swapped(run, seed));
-    calls::pool(rt, after, image);
-    after
+fn swap(rt: &impl Print, run: Run, image: &mut [u8], seed: &mut u64) -> io::Result<Run> {
+    run.swap(rt, image, drawn::swapped(run, seed))
 }
 
-fn stored(rt: &impl Print, run: Run, image: &mut [u8], buffer: &mut [u8], seed: &mut u64) {
-    write_event(rt, run, image, buffer, seed);
-    calls::pool(rt, run, image);
-}
-
-fn lose_two(rt: &impl Print, run: Run, image: &[u8], seed: &mut u64) -> Run {
-    let one = lose(rt, run, image, seed);
-    lose(rt, one, image, seed)
-}
-
-// Kiosks write, drives die, and one is taken for swapped too early.
-fn spring(rt: &impl Print, run: Run, image: &mut [u8], buffer: &mut [u8], seed: &mut u64) -> Run {
-    stored(rt, run, image, buffer, seed);
-    let two = lose_two(rt, run, image, seed);
-    swap(rt, two, image, seed)
-}
-
-// The row is repaired, and a dead drive gets other bytes.
-fn summer(rt: &impl Print, run: Run, image: &mut [u8], seed: &mut u64) -> Run {
-    let mended = calls::repair(rt, run, image);
-    calls::pool(rt, mended, image);
-    scribble_event(rt, mended, image, seed);
-    calls::pool(rt, mended, image);
-    mended
-}
-
-fn swap_and_show(rt: &impl Print, run: Run, image: &mut [u8], seed: &mut u64) -> Run {
-    let back = swap(rt, run, image, seed);
-    calls::panel(rt, back.y, back.rec, image);
-    calls::pool(rt, back, image);
-    back
-}
-
-// Drives are swapped.
-fn autumn(rt: &impl Print, run: Run, image: &mut [u8], seed: &mut u64) -> Run {
-    let back = swap_and_show(rt, run, image, seed);
-    swap(rt, back, image, seed)
-}
-
-fn rest_of_year(rt: &impl Print, run: Run, image: &mut [u8], seed: &mut u64) -> Run {
-    let mended = summer(rt, run, image, seed);
-    autumn(rt, mended, image, seed)
-}
-
-fn year(rt: &impl Print, run: Run, image: &mut [u8], buffer: &mut [u8], seed: &mut u64) -> Run {
-    let dead = spring(rt, run, image, buffer, seed);
-    rest_of_year(rt, dead, image, seed)
-}
-
-fn write_all(rt: &impl Print, run: Run, image: &mut [u8], buffer: &mut [u8], seed: &mut u64) {
-    let bytes = calls::front(buffer, run.numbers.capacity);
-    trial::fill(seed, bytes);
-    calls::write(rt, run, image, 0, bytes);
-    calls::pool(rt, run, image);
-}
-
-fn two_years(
+// Kiosks write, drives die, and one is taken for swapped too early. Then the row is repaired, a dead drive gets other bytes, and drives are swapped.
+fn year(
     rt: &impl Print,
     run: Run,
     image: &mut [u8],
     buffer: &mut [u8],
     seed: &mut u64,
-) -> Run {
-    let one = year(rt, run, image, buffer, seed);
-    year(rt, one, image, buffer, seed)
+) -> io::Result<Run> {
+    write_event(rt, run, image, buffer, seed)?;
+    let one = lose(rt, run, image, seed)?;
+    let two = lose(rt, one, image, seed)?;
+    let early = swap(rt, two, image, seed)?;
+    let mended = early.repair(rt, image)?;
+    scribble_event(rt, mended, image, seed)?;
+    let back = swap(rt, mended, image, seed)?;
+    back.panel(rt, image)?;
+    swap(rt, back, image, seed)
 }
 
-fn years(rt: &impl Print, run: Run, image: &mut [u8], buffer: &mut [u8], seed: &mut u64) -> Run {
-    let two = two_years(rt, run, image, buffer, seed);
-    two_years(rt, two, image, buffer, seed)
-}
-
-fn years_run(rt: &impl Print, i: u64, space: &mut [u8], buffer: &mut [u8], seed: &mut u64) {
-    let y = drawn::layout(seed);
-    let run = calls::begin(y);
+fn years_run(
+    rt: &impl Print,
+    i: u64,
+    space: &mut [u8],
+    buffer: &mut [u8],
+    seed: &mut u64,
+) -> io::Result<()> {
+    let mut run = Run::new(drawn::layout(seed));
     let image = calls::front(space, run.numbers.image);
-    lists::clear(image);
-    calls::head(rt, i, y);
-    calls::pool(rt, run, image);
-    write_all(rt, run, image, buffer, seed);
-    let last = years(rt, run, image, buffer, seed);
-    read_all(rt, last, image, buffer);
-}
-
-fn years_runs(rt: &impl Print, space: &mut [u8], buffer: &mut [u8], seed: &mut u64) {
-    for i in 408u64..448 {
-        years_run(rt, i, space, buffer, seed);
+    image.fill(0);
+    run.head(rt, i, image)?;
+    let bytes = calls::front(buffer, run.numbers.capacity);
+    trial::fill(seed, bytes);
+    run.write(rt, image, 0, bytes)?;
+    for _ in 0..4 {
+        run = year(rt, run, image, buffer, seed)?;
     }
+    read_all(rt, run, image, buffer)
 }
 
-fn main(rt: HostRuntime) {
-    let mut seed: u64 = 40260404;
-    let mut space = [0u8; 65536];
-    let mut buffer = [0u8; 65536];
-    fixed::runs(&rt, &mut space, &mut buffer);
-    drawn_runs(&rt, &mut space, &mut buffer, &mut seed);
-    fixed::counts(&rt, 404, &mut space);
-    fixed::swaps(&rt, &mut space, &mut buffer);
-    years_runs(&rt, &mut space, &mut buffer, &mut seed);
+fn main(rt: HostRuntime) -> io::Result<()> {
+    let mut seed = 40260404;
+    let mut space = [0; 65536];
+    let mut buffer = [0; 65536];
+    fixed::runs(&rt, &mut space, &mut buffer)?;
+    for i in 4..404 {
+        drawn_run(&rt, i, &mut space, &mut buffer, &mut seed)?;
+    }
+    fixed::counts(&rt, 404, &mut space)?;
+    fixed::swaps(&rt, &mut space, &mut buffer)?;
+    for i in 408..448 {
+        years_run(&rt, i, &mut space, &mut buffer, &mut seed)?;
+    }
+    Ok(())
 }

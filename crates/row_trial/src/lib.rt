@@ -3,8 +3,11 @@
 #![tactic(auto)]
 
 use homes::Record;
+use lists::Refusal;
 use numbers::Layout;
-use trial::{answer_line, decimal, set_all, text};
+use pool_repair::Mended;
+use std::{fmt, io};
+use trial::Outcome;
 
 // Two data units, one parity unit and one spare a group, over five drives.
 pub fn row_of(u: u64, t: u64) -> Layout {
@@ -12,8 +15,8 @@ pub fn row_of(u: u64, t: u64) -> Layout {
         n: 2,
         k: 1,
         p: 5,
-        u: u,
-        t: t,
+        u,
+        t,
         cookie: 7,
         edition: 1,
     }
@@ -22,28 +25,14 @@ pub fn row_of(u: u64, t: u64) -> Layout {
 // The row's settings as its fitter wrote them, read: units of eight bytes, one tile, so a file of 80 bytes and an image of 160.
 pub fn row() -> Layout {
     let line = b"01 02 01 05 0008 000001 0000000000000007\n";
-    let read = settings::newest(line, 41);
-    let y = read.layout;
-    y
-}
-
-pub fn in_edition(y: Layout, edition: u64) -> Layout {
-    Layout {
-        n: y.n,
-        k: y.k,
-        p: y.p,
-        u: y.u,
-        t: y.t,
-        cookie: y.cookie,
-        edition,
-    }
+    settings::newest(line, line.len()).unwrap_or_default()
 }
 
 pub fn record_of(first: u64, k: u64, q: u64) -> Record {
     Record {
         failed: [first, 0, 0],
-        k: k,
-        q: q,
+        k,
+        q,
         waiting: 0,
     }
 }
@@ -52,95 +41,65 @@ pub fn no_failures() -> Record {
     record_of(0, 0, 0)
 }
 
-// A record that is another's but for its count of missing units.
-pub fn with_count(r: Record, waiting: u64) -> Record {
-    let failed = r.failed;
-    Record {
-        failed,
-        k: r.k,
-        q: r.q,
-        waiting,
-    }
-}
-
 // ---- calls on the row
 
-pub fn put(r: Record, image: &mut [u8], offset: u64, bytes: &[u8]) -> u64 {
-    pool_write::write(row(), r, image, offset, bytes)
+pub fn put(r: Record, image: &mut [u8], offset: u64, bytes: &[u8]) -> Outcome {
+    Outcome::from(pool_write::write(row(), r, image, offset, bytes))
 }
 
-pub fn get(r: Record, image: &[u8], offset: u64, out: &mut [u8]) -> u64 {
+pub fn get(r: Record, image: &[u8], offset: u64, out: &mut [u8]) -> Result<(), Refusal> {
     pool_read::read(row(), r, image, offset, out)
 }
 
-pub fn lose(rt: &impl Print, r: Record, image: &[u8], target: u64) -> Record {
-    text(rt, b"Drive ");
-    decimal(rt, target);
-    text(rt, b" dies: ");
+pub fn lose(rt: &impl Print, r: Record, image: &[u8], target: u64) -> io::Result<Record> {
     let failed = pool_fail::fail(row(), r, image, target);
-    answer_line(rt, failed.refusal);
-    let rec = failed.rec;
-    rec
+    println!(rt; "Drive {target} dies: {}", Outcome::from(failed))?;
+    Ok(failed.unwrap_or(r))
 }
 
-// What stood on drive 2 is gone: it has the bytes from 64 on.
-pub fn wipe_drive_2(image: &mut [u8]) {
-    fill_drive(image, 64, 255);
+// What stood on drive 2 is gone: each drive has 32 bytes.
+pub fn wipe_drive_2(image: &mut [u8; 160]) {
+    image[64..96].fill(255);
 }
 
-// Every byte of the drive whose bytes begin there becomes this one: each drive has 32.
-pub fn fill_drive(image: &mut [u8], from: usize, value: u8) {
-    if from <= image.len() {
-        if 32 <= image.len() - from {
-            let end = from + 32;
-            set_all(&mut image[from..end], value);
-        }
-    }
-}
-
-pub fn mend(rt: &impl Print, r: Record, image: &mut [u8]) -> Record {
-    text(rt, b"The row is repaired: ");
+pub fn mend(rt: &impl Print, r: Record, image: &mut [u8]) -> io::Result<Record> {
     let repaired = pool_repair::repair(row(), r, image);
-    decimal(rt, repaired.count);
-    text(rt, b" units were missing, ");
-    answer_line(rt, repaired.refusal);
-    let rec = repaired.rec;
-    rec
+    let Mended { count, rec } = repaired.unwrap_or(Mended { count: 0, rec: r });
+    println!(rt;
+        "The row is repaired: {count} units were missing, {}",
+        Outcome::from(repaired)
+    )?;
+    Ok(rec)
 }
 
 // ---- the service panel
 
 // How many units the panel says to wait.
-fn say_waiting(rt: &impl Print, units: u64) {
-    if units == 0 {
-        text(rt, b"no unit waits");
-        return;
-    }
-    if units == 1 {
-        text(rt, b"1 unit waits");
-        return;
-    }
-    decimal(rt, units);
-    text(rt, b" units wait");
-}
+#[derive(Clone, Copy)]
+struct Waiting(u64);
 
-fn say_panel(rt: &impl Print, r: Record, image: &[u8]) {
-    text(rt, b"The service panel: ");
-    let shown = pool_count::panel(row(), r, image);
-    if shown.refusal == 0 {
-        say_waiting(rt, shown.waiting);
-        text(rt, b" for repair, ");
-        decimal(rt, shown.repaired);
-        text(rt, b" of ");
-        decimal(rt, shown.failed);
-        text(rt, b" dead drives repaired, ");
+impl fmt::Display for Waiting {
+    fn fmt<W: fmt::Write>(&self, f: &mut fmt::Formatter<W>) -> fmt::Result {
+        match self.0 {
+            0 => f.write_str("no unit waits"),
+            1 => f.write_str("1 unit waits"),
+            units => write!(f, "{units} units wait"),
+        }
     }
-    answer_line(rt, shown.refusal);
 }
 
 // What the panel shows, and what an audit of the count answers.
-pub fn inspect(rt: &impl Print, r: Record, image: &[u8]) {
-    say_panel(rt, r, image);
-    text(rt, b"The count is audited: ");
-    answer_line(rt, pool_count::audit(row(), r, image));
+pub fn inspect(rt: &impl Print, r: Record, image: &[u8]) -> io::Result<()> {
+    let shown = pool_count::panel(row(), r, image);
+    print!(rt; "The service panel: ")?;
+    if let Ok(counts) = shown {
+        let waiting = Waiting(counts.waiting);
+        print!(rt;
+            "{waiting} for repair, {} of {} dead drives repaired, ",
+            counts.repaired, counts.failed
+        )?;
+    }
+    println!(rt; "{}", Outcome::from(shown))?;
+    let audited = pool_count::audit(row(), r, image);
+    println!(rt; "The count is audited: {}", Outcome::from(audited))
 }

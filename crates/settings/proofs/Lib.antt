@@ -1,3 +1,4 @@
 pub mod ScanLaws
 pub mod CallLaws
 pub mod TextLaws
+pub mod Handed

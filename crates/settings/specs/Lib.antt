@@ -2,6 +2,7 @@ pub mod Settings
 pub mod Calls
 pub mod Scan
 pub mod Version
+pub mod Answers
 pub mod LineLaws
 pub mod ScanLaws
 pub mod CallLaws

@@ -1,10 +1,11 @@
 -- A version by its number, and what an add finds of the version that it is given.
 use Rattle.std.specs.Prelude.{◌≡◌, ℕ, Result, MatchResult, true, false}
 use Rattle.std.proofs.Common.{refl, subst}
+use Rattle.lists.specs.declared.Refusal.{Refusal}
+use Rattle.lists.specs.Numbered.{refusal_number}
 use Rattle.numbers.specs.declared.Layout.{Layout}
 use Rattle.settings.specs.declared.Version.{Version}
 use Rattle.settings.specs.declared.Version.TheVariants.{First, Second}
-use Rattle.settings.specs.declared.UnknownVersion.{UnknownVersion}
 use Rattle.settings.specs.Settings.{is_version}
 use Rattle.settings.specs.Calls.{add_refusal}
 
@@ -12,14 +13,13 @@ abbrev pub number_of : Version → ℕ
 number_of First = 1
 number_of Second = 2
 
-abbrev pub NamesVersion : ℕ → Result Version UnknownVersion → Type 0
-NamesVersion number r = MatchResult r (λ version. number_of version ≡ number) (λ _. is_version number ≡ false)
+abbrev pub NamesVersion : ℕ → Result Version Refusal → Type 0
+NamesVersion number r = MatchResult r (λ version. number_of version ≡ number) (λ e. (refusal_number e ≡ 1) × (is_version number ≡ false))
 
--- the version of an accepted add, or the number of the refusal
-abbrev pub Accepts : ℕ → Layout → ℕ → ℕ → Result Version ℕ → Type 0
+-- the version of an accepted add, or why it is refused
+abbrev pub Accepts : ℕ → Layout → ℕ → ℕ → Result Version Refusal → Type 0
 Accepts version y room used r =
-    MatchResult r (λ known. (number_of known ≡ version) × (0 ≡ add_refusal version y room used))
-    (λ n. (n ≡ 0 → ⊥) × (n ≡ add_refusal version y room used))
+    MatchResult r (λ known. (number_of known ≡ version) × (0 ≡ add_refusal version y room used)) (λ e. refusal_number e ≡ add_refusal version y room used)
 
 -- a version's number is one
 known_number : (known : Version) → is_version (number_of known) ≡ true

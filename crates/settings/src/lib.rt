@@ -7,7 +7,9 @@ ghost use Rattle.settings.specs.Settings.{edition_of, setting_layout, has_form, 
 ghost use Rattle.settings.specs.Calls.{Adds, settings_of};
 ghost use Rattle.settings.specs.Scan.{refused_with, Scanned};
 ghost use Rattle.settings.specs.Version.{number_of, NamesVersion, Accepts};
+ghost use Rattle.settings.specs.Answers.{added_by, settings_by};
 
+use lists::Refusal;
 use numbers::Layout;
 
 // ---- a line
@@ -22,20 +24,16 @@ enum Version {
     Second,
 }
 
-// A number that no version has.
-#[derive(Clone, Copy)]
-struct UnknownVersion;
-
 impl TryFrom<u64> for Version {
-    type Error = UnknownVersion;
+    type Error = Refusal;
 
     ghost try_from_gives = { NamesVersion };
 
-    fn try_from(number: u64) -> Result<Self, UnknownVersion> {
+    fn try_from(number: u64) -> Result<Self, Refusal> {
         match number {
             1 => Ok(Version::First),
             2 => Ok(Version::Second),
-            _ => Err(UnknownVersion),
+            _ => Err(Refusal::Layout),
         }
     }
 }
@@ -109,12 +107,12 @@ fn layout_of(line: &[u8]) -> Layout
 fn is_setting(line: &[u8]) -> bool
     ensures { result ≡ is_setting line.now }
 {
-    has_form(line) && numbers::refusal(layout_of(line)) == 0
+    has_form(line) && numbers::check(layout_of(line)).is_ok()
 }
 
 // ---- adding a record
 
-// Refused, `used` is as it was given.
+// How C is answered. Refused, `used` is as it was given.
 #[repr(C)]
 #[derive(Clone, Copy)]
 pub struct Added {
@@ -122,48 +120,89 @@ pub struct Added {
     pub used: usize,
 }
 
+impl Added {
+    // The answer of an add to a text of this length.
+    pub fn new(used: usize, answer: Result<usize, Refusal>) -> Self
+        ensures { result ≡ added_by used answer }
+    {
+        Added {
+            refusal: lists::answer_number(answer),
+            used: answer.unwrap_or(used),
+        }
+    }
+}
+
 // The version in which the layout is added.
-fn accepted(version: u64, y: Layout, room: usize, used: usize) -> Result<Version, u64>
+fn check_adding(version: u64, y: Layout, room: usize, used: usize) -> Result<Version, Refusal>
     ensures { Accepts version y room used result }
 {
-    let refusal = numbers::refusal(y);
-    if refusal != 0 {
-        return Err(refusal);
-    }
-    let known = match Version::try_from(version) {
-        Ok(known) => known,
-        Err(_) => return Err(1),
-    };
+    numbers::check(y)?;
+    let known = Version::try_from(version)?;
     if version < y.edition {
-        return Err(1);
+        return Err(Refusal::Layout);
     }
     if room < used {
-        return Err(5);
+        return Err(Refusal::BufferLength);
     }
     if room - used < known.line_length() {
-        return Err(10);
+        return Err(Refusal::Full);
     }
     Ok(known)
 }
 
-// Appends the line of a layout after the used part of the buffer.
-pub fn add(version: u64, y: Layout, buffer: &mut [u8], used: usize) -> Added
-    ensures { Adds version y buffer.old used result buffer.new }
+// Appends the line of a layout after the used part of the buffer, and answers how long the text is then.
+pub fn add(version: u64, y: Layout, buffer: &mut [u8], used: usize) -> Result<usize, Refusal>
+    ensures { Adds version y buffer.old used (added_by used result) buffer.new }
 {
-    match accepted(version, y, buffer.len(), used) {
-        Ok(known) => {
-            let numbers = [version, y.n, y.k, y.p, y.u, y.t, y.cookie, y.edition];
-            let end = trace::write_fields(numbers, WIDTHS, known.field_count(), buffer, used);
-            Added {
-                refusal: 0,
-                used: end,
-            }
-        }
-        Err(refusal) => Added { refusal, used },
-    }
+    let known = check_adding(version, y, buffer.len(), used)?;
+    let numbers = [version, y.n, y.k, y.p, y.u, y.t, y.cookie, y.edition];
+    let end = trace::write_fields(numbers, WIDTHS, known.field_count(), buffer, used);
+    Ok(end)
 }
 
 // ---- reading the newest
+
+// Why a text tells no layout: it is refused, or it has a malformed line, of which the first is told, counted from 1.
+#[derive(Clone, Copy, PartialEq, Eq, Debug)]
+pub enum Unread {
+    Refused(Refusal),
+    Malformed(u64),
+}
+
+// How C is answered. Where the refusal is 12, `line` is the first malformed line, counted from 1; else 0. Refused, the layout is zeros.
+#[repr(C)]
+#[derive(Clone, Copy)]
+pub struct Settings {
+    pub refusal: u64,
+    pub line: u64,
+    pub layout: Layout,
+}
+
+fn refused(refusal: u64, line: u64) -> Settings
+    ensures { result ≡ refused_with refusal line }
+{
+    Settings {
+        refusal,
+        line,
+        layout: numbers::no_layout(),
+    }
+}
+
+impl From<Result<Layout, Unread>> for Settings {
+    ghost from_gives = { λ answer settings. settings ≡ settings_by answer };
+
+    fn from(answer: Result<Layout, Unread>) -> Self {
+        match answer {
+            Ok(layout) => Settings {
+                refusal: 0,
+                line: 0,
+                layout,
+            },
+            Err(Unread::Refused(refusal)) => refused(refusal.into(), 0),
+            Err(Unread::Malformed(line)) => refused(12, line),
+        }
+    }
+}
 
 // Where the newest line of a text begins; or the first malformed line, counted from 1.
 fn scan(text: &[u8]) -> Result<usize, u64>
@@ -184,60 +223,37 @@ fn scan(text: &[u8]) -> Result<usize, u64>
     Ok(newest)
 }
 
-// Where the refusal is 12, `line` is the first malformed line, counted from 1; else 0. Refused, the layout is zeros.
-#[repr(C)]
-#[derive(Clone, Copy)]
-pub struct Settings {
-    pub refusal: u64,
-    pub line: u64,
-    pub layout: Layout,
-}
-
-fn refused(refusal: u64, line: u64) -> Settings
-    ensures { result ≡ refused_with refusal line }
-{
-    Settings {
-        refusal,
-        line,
-        layout: numbers::no_layout(),
-    }
-}
-
 // What a reader shows that was written for a version, and so knows the editions up to its newest.
-fn read(reader: Version, buffer: &[u8], used: usize) -> Settings
-    ensures { result ≡ settings_of (number_of reader) buffer.now used }
+fn read(reader: Version, buffer: &[u8], used: usize) -> Result<Layout, Unread>
+    ensures { settings_by result ≡ settings_of (number_of reader) buffer.now used }
 {
     if buffer.len() < used {
-        return refused(5, 0);
+        return Err(Unread::Refused(Refusal::BufferLength));
     }
     if used == 0 {
-        return refused(11, 0);
+        return Err(Unread::Refused(Refusal::NotThere));
     }
     let newest = match scan(&buffer[..used]) {
         Ok(newest) => newest,
-        Err(line) => return refused(12, line),
+        Err(line) => return Err(Unread::Malformed(line)),
     };
     let layout = layout_of(&buffer[newest..used]);
     if reader.newest_edition() < layout.edition {
-        return refused(17, 0);
+        return Err(Unread::Refused(Refusal::UnknownEdition));
     }
-    Settings {
-        refusal: 0,
-        line: 0,
-        layout,
-    }
+    Ok(layout)
 }
 
 // The newest record.
-pub fn newest(buffer: &[u8], used: usize) -> Settings
-    ensures { result ≡ settings_of 2 buffer.now used }
+pub fn newest(buffer: &[u8], used: usize) -> Result<Layout, Unread>
+    ensures { settings_by result ≡ settings_of 2 buffer.now used }
 {
     read(Version::Second, buffer, used)
 }
 
 // The newest record, by the reader of rows that know version 1 alone.
-pub fn newest_old(buffer: &[u8], used: usize) -> Settings
-    ensures { result ≡ settings_of 1 buffer.now used }
+pub fn newest_old(buffer: &[u8], used: usize) -> Result<Layout, Unread>
+    ensures { settings_by result ≡ settings_of 1 buffer.now used }
 {
     read(Version::First, buffer, used)
 }

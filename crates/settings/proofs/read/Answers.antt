@@ -1,5 +1,5 @@
 -- `settings::read` meets its contract: each return is what the tests that led there say.
-use mathlib.Core.Path.{refl, sym, ◌∙◌}
+use mathlib.Core.Path.{refl, sym}
 use native.Mathlib.Omega.{arith}
 use lib.Seq.{length-take-le}
 use Rattle.settings.specs.Version.{number_of}
@@ -8,17 +8,17 @@ use Rattle.settings.proofs.CallLaws.{found_form}
 use Rattle.settings.proofs.read.Goals as goal
 
 pub returns-then-buffer-used : goal.returns-then-buffer-used
-returns-then-buffer-used c = c.refused.ensures ∙ read_outside (number_of c.args.reader) c.args.buffer.now c.args.used (omega arith)
+returns-then-buffer-used c = read_outside (number_of c.args.reader) c.args.buffer.now c.args.used (omega arith)
 
 pub returns-then-used-eq0 : goal.returns-then-used-eq0
-returns-then-used-eq0 c = c.refused-then-used-eq0.ensures ∙ read_none (number_of c.args.reader) c.args.buffer.now c.args.used (omega arith) c.if-used-eq0.true
+returns-then-used-eq0 c = read_none (number_of c.args.reader) c.args.buffer.now c.args.used (omega arith) c.if-used-eq0.true
 
 pub slice_bounds-scan-end : goal.slice_bounds-scan-end
 slice_bounds-scan-end c = sym (length-take-le c.args.used c.args.buffer.now (omega arith))
 
 pub returns-in-Err : goal.returns-in-Err
-returns-in-Err c = c.refused-in-Err.ensures
-    ∙ found_malformed (number_of c.args.reader) c.args.buffer.now c.args.used (omega arith) (omega arith) c.in-Err.ensures.1 c.in-Err.ensures.0
+returns-in-Err c =
+    found_malformed (number_of c.args.reader) c.args.buffer.now c.args.used (omega arith) (omega arith) c.in-Err.ensures.1 c.in-Err.ensures.0
 
 pub slice_bounds-layout_of-count : goal.slice_bounds-layout_of-count
 slice_bounds-layout_of-count c = found_inside (number_of c.args.reader) c.args.buffer.now c.args.used (omega arith) (omega arith) c.in-Ok.ensures
@@ -27,8 +27,8 @@ pub layout_of-layout-requires : goal.layout_of-layout-requires
 layout_of-layout-requires c = found_form (number_of c.args.reader) c.args.buffer.now c.args.used (omega arith) (omega arith) c.in-Ok.ensures refl
 
 pub returns-then-newest_edition-layout : goal.returns-then-newest_edition-layout
-returns-then-newest_edition-layout c = c.refused-then-newest_edition-layout.ensures
-    ∙ found_unknown (number_of c.args.reader) c.args.buffer.now c.args.used (omega arith) (omega arith) c.in-Ok.ensures refl c.layout_of-layout.ensures (omega (arith, c.newest_edition.ensures))
+returns-then-newest_edition-layout c =
+    found_unknown (number_of c.args.reader) c.args.buffer.now c.args.used (omega arith) (omega arith) c.in-Ok.ensures refl c.layout_of-layout.ensures (omega (arith, c.newest_edition.ensures))
 
 pub returns : goal.returns
 returns c = found-shown (number_of c.args.reader) c.args.buffer.now c.args.used (omega arith) (omega arith) c.in-Ok.ensures refl c.layout_of-layout.ensures (omega (arith, c.newest_edition.ensures))
