@@ -81,7 +81,8 @@ pub fn image_starts(p: Plan, size: usize, lo: usize) -> [usize; 16]
 
 // Where the named bytes of the data units begin in the bytes to write.
 fn byte_starts(p: Plan, run: Run) -> [usize; 16]
-    requires { (p.n ≤ 16) × (run.group_at ≤ 17592186044416) × (p.u ≤ 4096) × (run.lo ≤ p.u) × ((j : ℕ) → withinRun run.from run.units j ≡ true → run.bytes_at ≤ run.group_at + (p.u * j + run.lo)) }
+    requires { (p.n ≤ 16) × (run.group_at ≤ 17592186044416) × (p.u ≤ 4096) × (run.lo ≤ p.u)
+        × ((j : ℕ) → withinRun run.from run.units j ≡ true → run.bytes_at ≤ run.group_at + (p.u * j + run.lo)) }
     ensures { (j : ℕ) → j < p.n → get_or result j 0 ≡ byte_start p.u run.group_at run.bytes_at run.from run.units run.lo j }
 {
     starts_by(p.n, |j| run.byte_start(p.u, j))
@@ -180,7 +181,8 @@ pub struct Halves {
 
 fn halved(row: [u8; 16], gone: [bool; 19], n: usize) -> Halves
     requires { n ≤ 16 }
-    ensures { ((j : ℕ) → j < n → get_or result.present j 0 ≡ pick (not (flag gone j)) (get_or row j 0) 0) × ((j : ℕ) → j < n → get_or result.missing j 0 ≡ pick (flag gone j) (get_or row j 0) 0) }
+    ensures { ((j : ℕ) → j < n → get_or result.present j 0 ≡ pick (not (flag gone j)) (get_or row j 0) 0)
+        × ((j : ℕ) → j < n → get_or result.missing j 0 ≡ pick (flag gone j) (get_or row j 0) 0) }
 {
     let mut present = [0u8; 16];
     let mut missing = [0u8; 16];
