@@ -102,29 +102,3 @@ pub fn check_look(
     }
     Ok(())
 }
-
-// ---- the numbers of these refusals, 0 where there is none
-
-pub fn pool_refusal(y: Layout, r: Record, len: usize) -> u64
-    ensures { result ≡ repair_refusal y r len }
-{
-    lists::answer_number(check_pool(y, r, len))
-}
-
-pub fn range_refusal(y: Layout, r: Record, len: usize, offset: u64, size: usize) -> u64
-    ensures { result ≡ range_refusal y r len offset size }
-{
-    lists::answer_number(check_range(y, r, len, offset, size))
-}
-
-pub fn fail_refusal(y: Layout, r: Record, len: usize, target: u64) -> u64
-    ensures { result ≡ otherwise y r len target }
-{
-    lists::answer_number(check_failing(y, r, len, target))
-}
-
-pub fn look_refusal(y: Layout, r: Record, len: usize, room: usize, group: u64, content: u64) -> u64
-    ensures { result ≡ look_refusal y r len room group content }
-{
-    lists::answer_number(check_look(y, r, len, room, group, content))
-}

@@ -96,13 +96,6 @@ pub fn check(y: Layout) -> Result<(), Refusal>
     Ok(())
 }
 
-// The number of that refusal, 0 where there is none.
-pub fn refusal(y: Layout) -> u64
-    ensures { result ≡ layout_refusal y }
-{
-    lists::answer_number(check(y))
-}
-
 // Zeros: no layout that is within the bounds.
 pub fn no_layout() -> Layout
     ensures { result ≡ no_layout }
