@@ -14,7 +14,7 @@ ghost use Rattle.parity.specs.Rows.{slot};
 use field::Tables;
 use std::array;
 
-// At most three numbers, in order, with zeros after them.
+// At most three numbers, in order, with zeros after them: an array with its count, since nothing here allocates and the crates above read both.
 #[derive(Clone, Copy)]
 pub struct Few {
     pub at: [usize; 3],

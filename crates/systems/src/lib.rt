@@ -64,7 +64,7 @@ fn cofactor(tables: &Tables, m: [[u8; 3]; 3], r: usize, c: usize) -> u8
     tables.mul(m[i][j], m[k][l]) ^ tables.mul(m[i][l], m[k][j])
 }
 
-// The sum of the products of two rows of three.
+// The sum of the products of two rows of three, written out in the order of the rule: it is made for every slot.
 pub fn dot(tables: &Tables, u: [u8; 3], v: [u8; 3]) -> u8
     ensures { result ≡ dot_of u v }
 {
