@@ -33,10 +33,14 @@ room : (y : Layout) (r : Record) (g : ℕ) (flags : List Bool) (at : ℕ) (old :
 room y r g flags at old k c next out s h t = content_room y r g flags at old k c next out s h (sym (k.flags_are c h) ∙ t)
 
 pub draw_entry-requires : goal.draw_entry-requires
-draw_entry-requires c = let k = here _ _ _ _ _ _ _ _ c.requires c.stand_of-stand.ensures in (k.valid, enough_there _ _ _ _ _ _ k, room _ _ _ _ _ _ k _ _ _ (c.loop-c.invariant _ k) c.loop-c-test.true (cc))
+draw_entry-requires c =
+    let k = here _ _ _ _ _ _ _ _ c.requires c.stand_of-stand.ensures in
+    (k.valid, enough_there _ _ _ _ _ _ k, room _ _ _ _ _ _ k _ _ _ (c.loop-c.invariant _ k) c.loop-c-test.true (cc))
 
 pub overflow_add-next : goal.overflow_add-next
-overflow_add-next c = let k = here _ _ _ _ _ _ _ _ c.requires c.stand_of-stand.ensures in omega (arith, room _ _ _ _ _ _ k _ _ _ (c.loop-c.invariant _ k) c.loop-c-test.true (cc), (c.loop-c.invariant _ k).written.len)
+overflow_add-next c =
+    let k = here _ _ _ _ _ _ _ _ c.requires c.stand_of-stand.ensures in
+    omega (arith, room _ _ _ _ _ _ k _ _ _ (c.loop-c.invariant _ k) c.loop-c-test.true (cc), (c.loop-c.invariant _ k).written.len)
 
 pub loop-c-preserved : goal.loop-c-preserved
 loop-c-preserved c = λ R k.
