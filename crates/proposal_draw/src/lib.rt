@@ -1,4 +1,5 @@
-// Our planner: groups rise, contents rise within each, and the sources are the N lowest present contents. Inner.
+// Our planner: groups rise, contents rise within each, and the sources are the N lowest present contents. Inner. Each step is given the whole buffer
+// and a place in it, and no part of it: its contract says where in the plan each number stands.
 #![tactic(auto)]
 
 ghost use Rattle.std.specs.Prelude.{◌≡◌, ◌+◌, ◌*◌, ◌≤◌, length};
@@ -16,7 +17,8 @@ ghost use Rattle.proposal_draw.specs.Drawn.{plan_number, numbers_below};
 use homes::Record;
 use numbers::{Layout, Shape};
 
-// The n lowest of m contents that are not missing, in out[at ..]. There are at least n, so the end of the contents is not tested.
+// The n lowest of m contents that are not missing, in out[at ..]. There are at least n, so the loop ends by what is
+// written, and not at the end of the contents.
 fn draw_sources(missing: [bool; 19], m: usize, n: usize, out: &mut [u64], at: usize)
     requires { (m ≤ 19) × (n ≤ count (present_by missing) m) × (at + n ≤ length out.old) }
     ensures { Span (lowest_from missing m at) at (at + n) out.old out.new }
@@ -69,8 +71,8 @@ fn draw_group(
     next
 }
 
-// The whole plan, of `needed` numbers, in a buffer that has room for it. A permutation is worked out where the tile changes, and once all is written
-// no group is looked at any more.
+// The whole plan, of `needed` numbers, in a buffer that has room for it. A permutation is worked out where the tile changes, and the loop ends by
+// what is written: after that no group is looked at any more.
 pub fn draw(y: Layout, r: Record, out: &mut [u64], needed: usize)
     requires { Valid y × Good y r × (needed ≡ drawn_length y r) × (needed ≤ length out.old) }
     ensures { out.new ≡ over (drawn_plan y r) out.old }
