@@ -64,7 +64,7 @@ fn roll(s: &mut [Entry], plan: Plan)
     }
 }
 
-// The cobs of records, one after the other.
+// The cobs of records, one after the other. An index names the place: of two iterators side by side the invariant would speak of their inside.
 fn list(records: &[Entry], out: &mut [Wide])
     requires { length records.now ≤ length out.old }
     ensures { out.new ≡ listed records.now out.old }

@@ -54,6 +54,8 @@ pub fn blank_entry() -> Entry
     Entry::default()
 }
 
+// What the derived comparisons are by the definitions: the code compares by `<` and `==`.
+
 // The order of two wide numbers is that of the pairs: by the first word and then the second.
 pub fn below_wide(a: Wide, b: Wide) -> bool
     ensures { result ≡ wide_lt a b }
@@ -119,7 +121,7 @@ pub fn trusted(n: usize, sound: bool) -> usize
 pub struct Look {
     pub n: usize,
     pub len: usize,
-    // no refusal 9
+    // no refusal 9: a flag, as `trusted` tells from it how many records are searched, and the definitions speak of it
     pub sound: bool,
     // how many records were searched
     pub upto: usize,

@@ -10,7 +10,8 @@ ghost use Rattle.shelf.specs.Shelf.{shelf_of, sheet_of};
 use entries::{Changed, Entry, Key, Page, Wide};
 use lists::Refusal;
 
-// The slots after a change, and its answer: a refused one hands the slots back as they were, and the count that it was given.
+// The slots after a change, and its answer: a refused one hands the slots back as they were, and the count that it was given. The answer stays a
+// number beside them, as the theorems of the eight slots speak of it.
 #[repr(C)]
 #[derive(Clone, Copy)]
 pub struct Shelf {
