@@ -8,15 +8,12 @@ use Rattle.std.proofs.Math.Nat.{max-eq_left, max-eq_right}
 use native.Mathlib.Omega.{arith}
 use Rattle.std.proofs.Math.Dec.{eqb}
 use borrow.Author.Tests.{eq-eqb, eqb-true, lt-ltb, le-ltb}
-use borrow.Rule.Slice.PartMut.{put_mid}
-use Rattle.std.proofs.Common.{rules}
-use Rattle.std.proofs.lemmas.List.{places}
 use Rattle.std.specs.Cmp.Lexicographic.{pointwise, same_text, other_text}
 use Rattle.lists.specs.Pick.{pick, pick_true, pick-false, both, both_hold, below_or_not, either_way, not-both_ways}
 use Rattle.lists.specs.Part.{within}
 use Rattle.lists.specs.Search.{all, all-at, all_true}
 use Rattle.lists.specs.Span.{Span, span_step, span_join}
-use Rattle.lists.specs.Tabulate.{at, tabulate, length-tabulate, get_d_tabulate, tabulate_ext, part_tabulated}
+use Rattle.lists.specs.Tabulate.{at, tabulate, get_d_tabulate, tabulate_ext, part_tabulated}
 use Rattle.hex_text.specs.Hex.{hex_digit, digit_at}
 use Rattle.hex_text.specs.HexChars.{char_byte, char_end}
 use Rattle.hex_text.specs.CharLaws.{head_same, which_pair, which_half}
@@ -96,19 +93,12 @@ module _ (text : List ℕ) (a target frame : ℕ) where
   head_told true q h e room = head_stands (sym (ap (λ (m : ℕ). take m (drop a text)) q) ∙ same_text _ _ e ∙ h)
   head_told false q h e room = head_differs (λ (r : take 10 (drop a text) ≡ tabulate 10 (head_of target frame)). other_text _ _ e (ap (λ (m : ℕ). take m (drop a text)) q ∙ r ∙ sym h)) room
 
--- the ten characters written at once
-pub head_put : (a target frame : ℕ) (old : List ℕ) {n : ℕ} {head : List ℕ} → n ≡ 10 → a + 10 ≤ length old → head ≡ tabulate 10 (head_of target frame)
-    → Span (head_from a target frame) a (a + 10) old (put_mid a n old head)
-head_put a target frame old {n} {head} q room h =
-    let long : length head ≡ 10 = ap length h ∙ length-tabulate 10 (head_of target frame) in
-    record {
-      len = search (rules, places);
-      done = λ y b c.
-          let e : at (put_mid a n old head) y ≡ at head (y - a) = search (rules, places) in
-          e ∙ ap (λ (l : List ℕ). at l (y - a)) h ∙ get_d_tabulate 10 (head_of target frame) (y - a) 0 (omega arith);
-      before = λ y b. search (rules, places);
-      after = λ y b. search (rules, places);
-    }
+-- one of the ten characters written
+pub head_turn : (a target frame j v : ℕ) {old : List ℕ} (l : List ℕ) → a + j < length l → Span (head_from a target frame) a (a + j) old l → v ≡ head_of target frame j
+    → Span (head_from a target frame) a (a + (j + 1)) old (set l (a + j) v)
+head_turn a target frame j v l b s e =
+    span_step (head_from a target frame) a (a + j) l v (omega arith) b (omega arith) s
+    (e ∙ ap (head_of target frame) (let q : j ≡ a + j - a = omega arith in q))
 
 -- ---- a unit written: two digits a turn
 

@@ -22,7 +22,7 @@ pub fn hex_digit(x: u8) -> u8
     b'a' - 10 + x
 }
 
-// The value of one of the six letters, 16 for anything else. Letters and digits are tested apart: so the compiler makes one test of each run.
+// The value of one of the six letters, 16 for anything else, and no Option: so a run of characters is tested on vectors. Letters and digits are tested apart: so the compiler makes one test of each run.
 fn letter_or_16(c: u8) -> u8
     ensures { result ≡ letter_or16 c }
 {
@@ -90,11 +90,14 @@ pub fn write_number(x: u64, n: usize, text: &mut [u8], at: usize)
 
 // ---- a line written
 
+// One by one: a short line takes half as long again by a copy of the ten, which waits until they are stored.
 fn write_head(target: u64, frame: u64, text: &mut [u8], at: usize)
     requires { at + 10 ≤ length text.old }
     ensures { Span (head_from at target frame) at (at + 10) text.old text.new }
 {
-    text[at..at + 10].copy_from_slice(&head(target, frame));
+    for (i, character) in head(target, frame).iter().enumerate() {
+        text[at + i] = *character;
+    }
 }
 
 // Two digits for each of the u bytes of the image from `begins` on, high before low; `% 16` as in `digit_at`, for bytes it costs nothing.
