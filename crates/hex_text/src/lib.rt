@@ -22,7 +22,8 @@ pub fn hex_digit(x: u8) -> u8
     b'a' - 10 + x
 }
 
-// The value of one of the six letters, 16 for anything else, and no Option: so a run of characters is tested on vectors. Letters and digits are tested apart: so the compiler makes one test of each run.
+// The value of one of the six letters, 16 for anything else, and no Option: so a run of characters is tested on vectors.
+// Letters and digits are tested apart: so the compiler makes one test of each run.
 fn letter_or_16(c: u8) -> u8
     ensures { result ≡ letter_or16 c }
 {
