@@ -4,7 +4,7 @@
 ghost use Rattle.std.specs.Prelude.{ℕ, ◌≢◌, IfSome, IsNone, ◌≡◌, ◌*◌, ◌%◌, ◌^◌, ◌<◌, ◌≤◌, length};
 ghost use Rattle.lists.specs.Tabulate.{at};
 ghost use Rattle.tile.specs.Generator.{start_of, next_of, extra, begin_of, draw_of};
-ghost use Rattle.tile.specs.Permutation.{own, permutation_of, inverse_of};
+ghost use Rattle.tile.specs.Permutation.{own, exchange, permutation_of, inverse_of};
 ghost use Rattle.tile.specs.Laws.{Permutes};
 
 const HALF: u64 = 4294967296;
@@ -88,6 +88,19 @@ fn own_indices() -> [u8; 64]
     std::array::from_fn(|t| t as u8)
 }
 
+// Exchanges entries i and j. In place, and not by the slice's `swap`, which tests which of the two comes first: a permutation takes more
+// than half as many instructions again by it.
+#[tactic(auto, unfolding(crate::specs::Permutation::exchange))]
+fn swap(a: &mut [u8; 64], i: usize, j: usize)
+    requires { (i < 64) × (j < 64) }
+    ensures { a.new ≡ exchange a.old i j }
+{
+    let x = a[i];
+    let y = a[j];
+    a[i] = y;
+    a[j] = x;
+}
+
 // The target of each column of a tile.
 pub fn permutation(edition: u64, p: u64, cookie: u64, tile: u64) -> [u8; 64]
     requires { (1 ≤ p) × (p ≤ 64) }
@@ -98,7 +111,7 @@ pub fn permutation(edition: u64, p: u64, cookie: u64, tile: u64) -> [u8; 64]
     for i in (1..p).rev() {
         g = g.advance();
         let j = g.draw(i);
-        a.swap(i as usize, j as usize);
+        swap(&mut a, i as usize, j as usize);
     }
     a
 }

@@ -1,14 +1,9 @@
 -- `tile::permutation` meets its contract. What is left to do, done to what stands, is the answer.
-use Rattle.std.proofs.Common.{◌≡◌, ℕ, ◌-◌, List, ap, sym, ◌∙◌, arith}
-use Rattle.std.specs.List.{SwappedAt}
+use Rattle.std.proofs.Common.{◌≡◌, ℕ, ◌-◌, ap, sym, ◌∙◌, arith}
 use Rattle.tile.specs.Generator.{next_of, draw_of}
-use Rattle.tile.specs.Permutation.{exchange, shuffle_of, permutation_of}
+use Rattle.tile.specs.Permutation.{shuffle_of, permutation_of}
 use Rattle.tile.specs.Laws.{shuffle_step}
 use Rattle.tile.proofs.permutation.Goals as goal
-
-exchanged : (l m : List ℕ) (i j : ℕ) → SwappedAt l m i j → m ≡ exchange l i j
-unfolding exchange
-exchanged l m i j h = h.3 0
 
 pub loop-i-init : goal.loop-i-init
 unfolding permutation_of
@@ -19,7 +14,6 @@ loop-i-preserved c = let s = c.loop-i.g.state in
     let i = c.loop-i.i - 1 in
     let e : c.advance-g.result.state ≡ next_of s = c.advance-g.ensures in
     let d : c.draw-j.result ≡ draw_of c.advance-g.result.state i = c.draw-j.ensures.0 in
-    let x = exchanged c.loop-i.a c.swap.new.self i c.draw-j.result c.swap.ensures.by_index in
     let step = shuffle_step i s c.loop-i.a (omega arith) in cc
 
 pub returns : goal.returns
