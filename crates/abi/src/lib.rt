@@ -448,7 +448,7 @@ pub extern "C" fn splicebell_read_text(y: Layout, text: &[u8], image: &mut [u8])
 pub extern "C" fn splicebell_replay_first(line: &[u8]) -> FirstLine
     ensures { result ≡ first_of line.now }
 {
-    replay_line::first(line)
+    replay_line::first(line).into()
 }
 
 #[unsafe(no_mangle)]
@@ -461,7 +461,7 @@ pub extern "C" fn splicebell_replay_line(
 ) -> Played
     ensures { Plays y r image.old line.now answer.old result image.new answer.new }
 {
-    replay_line::play(y, r, image, line, answer)
+    Played::new(r, replay_line::play(y, r, image, line, answer))
 }
 
 // ---- a row's settings
