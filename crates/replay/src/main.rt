@@ -2,330 +2,188 @@
 // lines end in `line_cursor`; here bytes come and go. Like the other programs it is held to nothing but to be safe; what it prints is compared.
 #![tactic(auto)]
 
-ghost use Rattle.std.specs.Prelude.{◌≡◌, ◌≤◌, length};
+ghost use Rattle.std.specs.Prelude.{◌≤◌};
 
 use homes::Record;
 use numbers::Layout;
 use std::io::Read;
 
-// How far a replay is: the first line's layout once it is read, the record, how many bytes the image has, how many bytes of a line that crosses pieces
-// are held, and how many bytes of answers wait to be written.
+// The run is over.
 #[derive(Clone, Copy)]
-struct Replay {
-    begun: bool,
-    ended: bool,
-    layout: Layout,
-    rec: Record,
-    size: usize,
-    held: usize,
-    waiting: usize,
-}
-
-fn fresh() -> Replay
-    ensures { result.held ≡ 0 }
-{
-    let layout = Layout {
-        n: 0,
-        k: 0,
-        p: 0,
-        u: 0,
-        t: 0,
-        cookie: 0,
-        edition: 0,
-    };
-    let rec = Record {
-        failed: [0, 0, 0],
-        k: 0,
-        q: 0,
-        waiting: 0,
-    };
-    Replay {
-        begun: false,
-        ended: false,
-        layout,
-        rec,
-        size: 0,
-        held: 0,
-        waiting: 0,
-    }
-}
-
-// ---- answers
-
-// Writes the answers that wait. Where standard output takes them no more, the run ends.
-fn flush(rt: &impl Print, w: Replay, answers: &[u8]) -> Replay
-    ensures { result.held ≡ w.held }
-{
-    let mut next = w;
-    let waiting = w.waiting;
-    if waiting <= answers.len() {
-        if rt.write_all(&answers[..waiting]).is_err() {
-            next.ended = true;
-        }
-    }
-    next.waiting = 0;
-    next
-}
+struct Ended;
 
 // A number alone, which ends the run.
-fn end_with(rt: &impl Print, w: Replay, number: u64) -> Replay
-    ensures { result.held ≡ w.held }
-{
+fn end_with(rt: &impl Print, number: u64) -> Ended {
     let _ = rt.println(number);
-    let mut next = w;
-    next.ended = true;
-    next
+    Ended
 }
 
 // ---- lines
 
-// The first line: the layout, or the number that ends the run.
-fn begin(rt: &impl Print, w: Replay, line: &[u8]) -> Replay
-    ensures { result.held ≡ w.held }
-{
-    let first = replay_line::first(line);
-    if first.refusal != 0 {
-        return end_with(rt, w, first.refusal);
-    }
-    let layout = first.layout;
-    let rec = w.rec;
-    Replay {
-        begun: true,
-        ended: false,
-        layout,
-        rec,
-        size: first.image as usize,
-        held: w.held,
-        waiting: w.waiting,
-    }
+// What the first line tells, once it is read; the record, and how many bytes the image has.
+#[derive(Clone, Copy)]
+struct Pool {
+    layout: Layout,
+    rec: Record,
+    size: usize,
 }
 
-// Writes what waits where half of the buffer is full: it has room for the longest answer twice.
-fn make_room(rt: &impl Print, w: Replay, answers: &[u8]) -> Replay
-    ensures { result.held ≡ w.held }
-{
-    if w.waiting <= 65560 {
-        return w;
-    }
-    flush(rt, w, answers)
+// The pool of a replay, its image, and the answers that wait to be written.
+#[derive(Drop)]
+struct Player {
+    pool: Option<Pool>,
+    image: [u8; 32768],
+    answers: [u8; 131120],
+    waiting: usize,
 }
 
-// Where the next answer goes: after this one, which lies within the buffer.
-fn onward(waiting: usize, length: u64, most: usize) -> usize {
-    if most <= waiting {
-        return most;
+impl Player {
+    // Writes the answers that wait. Where standard output takes them no more, the run ends.
+    fn flush(&mut self, rt: &impl Print) -> Result<(), Ended> {
+        let waiting = self.waiting.min(self.answers.len());
+        self.waiting = 0;
+        rt.write_all(&self.answers[..waiting]).map_err(|_| Ended)
     }
-    if ((most - waiting) as u64) < length {
-        return most;
-    }
-    waiting + length as usize
-}
 
-// One event, whose answer is laid after those that wait.
-fn play(rt: &impl Print, w: Replay, image: &mut [u8], line: &[u8], answers: &mut [u8]) -> Replay
-    ensures { result.held ≡ w.held }
-{
-    let now = make_room(rt, w, answers);
-    let waiting = now.waiting;
-    let size = now.size;
-    if image.len() < size {
-        return now;
+    // The first line: the layout, or the number that ends the run.
+    fn begin(&mut self, rt: &impl Print, line: &[u8]) -> Result<(), Ended> {
+        let first = match replay_line::first(line) {
+            Ok(first) => first,
+            Err(refusal) => return Err(end_with(rt, refusal.into())),
+        };
+        self.pool = Some(Pool {
+            layout: first.layout,
+            rec: Record {
+                failed: [0; 3],
+                k: 0,
+                q: 0,
+                waiting: 0,
+            },
+            size: first.image as usize,
+        });
+        Ok(())
     }
-    if answers.len() < waiting {
-        return now;
-    }
-    let layout = now.layout;
-    let rec = now.rec;
-    let played = replay_line::play(
-        layout,
-        rec,
-        &mut image[..size],
-        line,
-        &mut answers[waiting..],
-    );
-    let next = played.rec;
-    Replay {
-        begun: true,
-        ended: now.ended,
-        layout,
-        rec: next,
-        size,
-        held: now.held,
-        waiting: onward(waiting, played.length, answers.len()),
-    }
-}
 
-// One whole line, or the last one, that the stream ends in the middle of.
-fn play_line(
-    rt: &impl Print,
-    w: Replay,
-    image: &mut [u8],
-    line: &[u8],
-    answers: &mut [u8],
-) -> Replay
-    ensures { result.held ≡ w.held }
-{
-    if w.ended {
-        return w;
+    // One event, whose answer is laid after those that wait. These are written where half of the buffer is full: it has room for the longest answer twice.
+    fn event(&mut self, rt: &impl Print, pool: Pool, line: &[u8]) -> Result<(), Ended> {
+        if 65560 < self.waiting {
+            self.flush(rt)?;
+        }
+        let size = pool.size.min(self.image.len());
+        let waiting = self.waiting.min(self.answers.len());
+        let played = replay_line::play(
+            pool.layout,
+            pool.rec,
+            &mut self.image[..size],
+            line,
+            &mut self.answers[waiting..],
+        );
+        if let Ok(event) = played {
+            self.waiting = waiting.saturating_add(event.length as usize);
+            self.pool = Some(Pool {
+                rec: event.rec,
+                ..pool
+            });
+        }
+        Ok(())
     }
-    if w.begun {
-        return play(rt, w, image, line, answers);
-    }
-    begin(rt, w, line)
-}
 
-// Whether a line lies whole in its piece.
-fn stands_alone(held: usize, whole: bool) -> bool {
-    if held != 0 {
-        return false;
+    // One whole line, or the last one, that the stream ends in the middle of.
+    fn play(&mut self, rt: &impl Print, line: &[u8]) -> Result<(), Ended> {
+        match self.pool {
+            Some(pool) => self.event(rt, pool, line),
+            None => self.begin(rt, line),
+        }
     }
-    whole
-}
-
-// The line that ends at `end`, or the piece of it that came. A whole one is played from where it stands; else it is kept.
-fn take(
-    rt: &impl Print,
-    w: Replay,
-    piece: &[u8],
-    from: usize,
-    end: usize,
-    image: &mut [u8],
-    line: &mut [u8],
-    answers: &mut [u8],
-) -> Replay
-    requires { (from ≤ end) × (end ≤ length piece.now) × (length line.old ≡ 8301) × (w.held ≤ 8301) }
-    ensures { result.held ≤ 8301 }
-{
-    let whole = line_cursor::is_whole(piece, from, end);
-    if stands_alone(w.held, whole) {
-        return play_line(rt, w, image, &piece[from..end], answers);
-    }
-    let held = line_cursor::keep(piece, from, end, line, w.held);
-    let mut next = w;
-    if !whole {
-        next.held = held;
-        return next;
-    }
-    next.held = 0;
-    play_line(rt, next, image, &line[..held], answers)
 }
 
 // ---- the stream
 
-// All lines that end in this piece, and what is left of it.
-fn take_all(
-    rt: &impl Print,
-    w: Replay,
-    piece: &[u8],
-    image: &mut [u8],
-    line: &mut [u8],
-    answers: &mut [u8],
-) -> Replay
-    requires { (length line.old ≡ 8301) × (w.held ≤ 8301) }
-    ensures { result.held ≤ 8301 }
-{
-    let mut next = w;
-    let mut from = 0;
-    while from < piece.len() {
-        let end = line_cursor::line_end(piece, from);
-        next = take(rt, next, piece, from, end, image, line, answers);
-        from = end;
-    }
-    next
+// The beginning of a line that crosses pieces: none where nothing is held.
+#[derive(Drop)]
+struct Line {
+    bytes: [u8; 8301],
+    held: usize,
+    ghost fits: { held ≤ 8301 },
 }
 
-// A line that the stream ends in the middle of: without its newline it is malformed.
-fn play_rest(
-    rt: &impl Print,
-    w: Replay,
-    image: &mut [u8],
-    line: &[u8],
-    answers: &mut [u8],
-) -> Replay
-    requires { w.held ≤ length line.now }
-    ensures { result.held ≡ w.held }
-{
-    let held = w.held;
-    if held == 0 {
-        return w;
-    }
-    play_line(rt, w, image, &line[..held], answers)
+#[derive(Drop)]
+struct Replay {
+    player: Player,
+    line: Line,
 }
 
-// The end of the stream. Without a first line there is nothing to run.
-fn finish(rt: &impl Print, w: Replay, image: &mut [u8], line: &[u8], answers: &mut [u8]) -> Replay
-    requires { w.held ≤ length line.now }
-    ensures { result.held ≡ w.held }
-{
-    let rest = play_rest(rt, w, image, line, answers);
-    let mut last = flush(rt, rest, answers);
-    if last.ended {
-        return last;
+impl Replay {
+    // The line that is held.
+    fn play_held(&mut self, rt: &impl Print) -> Result<(), Ended> {
+        let held = self.line.held;
+        self.line.held = 0;
+        self.player.play(rt, &self.line.bytes[..held])
     }
-    if !last.begun {
-        return end_with(rt, last, 13);
-    }
-    last.ended = true;
-    last
-}
 
-// How many bytes the next piece has: none at the stream's end, and none where it cannot be read.
-fn next_piece(input: &mut impl Read, piece: &mut [u8]) -> usize
-    ensures { result ≤ length piece.new }
-{
-    match input.read(piece) {
-        Ok(n) => n,
-        Err(_) => 0,
-    }
-}
-
-// One piece of the stream, or its end.
-fn read_some(
-    rt: &impl Print,
-    input: &mut impl Read,
-    w: Replay,
-    piece: &mut [u8],
-    image: &mut [u8],
-    line: &mut [u8],
-    answers: &mut [u8],
-) -> Replay
-    requires { (length line.old ≡ 8301) × (w.held ≤ 8301) }
-    ensures { result.held ≤ 8301 }
-{
-    let n = next_piece(input, piece);
-    if n == 0 {
-        return finish(rt, w, image, line, answers);
-    }
-    let next = take_all(rt, w, &piece[..n], image, line, answers);
-    flush(rt, next, answers)
-}
-
-// Nothing says that a stream ends: the turns are counted down from a number that no run uses up.
-fn run<R: Input + Print>(
-    rt: &R,
-    piece: &mut [u8],
-    image: &mut [u8],
-    line: &mut [u8],
-    answers: &mut [u8],
-)
-    requires { length line.old ≡ 8301 }
-{
-    let mut input = rt.reader();
-    let mut w = fresh();
-    let mut turns = u64::MAX;
-    while 0 < turns {
-        if w.ended {
-            return;
+    // A line, or the part of it that came. A whole one is played from where it stands; else it is kept.
+    fn take(&mut self, rt: &impl Print, part: &[u8]) -> Result<(), Ended> {
+        let whole = line_cursor::is_whole(part, 0, part.len());
+        if whole && self.line.held == 0 {
+            return self.player.play(rt, part);
         }
-        w = read_some(rt, &mut input, w, piece, image, line, answers);
-        turns -= 1;
+        let held = self.line.held;
+        self.line.held = line_cursor::keep(part, 0, part.len(), &mut self.line.bytes, held);
+        if whole {
+            self.play_held(rt)?;
+        }
+        Ok(())
+    }
+
+    // All lines that end in this piece, and what is left of it.
+    fn take_all(&mut self, rt: &impl Print, piece: &[u8]) -> Result<(), Ended> {
+        let mut from = 0;
+        while from < piece.len() {
+            let end = line_cursor::line_end(piece, from);
+            self.take(rt, &piece[from..end])?;
+            from = end;
+        }
+        self.player.flush(rt)
+    }
+
+    // The end of the stream: a line that it ends in the middle of is malformed, and without a first line there is nothing to run.
+    fn finish(&mut self, rt: &impl Print) -> Result<(), Ended> {
+        if self.line.held != 0 {
+            self.play_held(rt)?;
+        }
+        self.player.flush(rt)?;
+        match self.player.pool {
+            Some(_) => Ok(()),
+            None => Err(end_with(rt, 13)),
+        }
+    }
+
+    // Nothing says that a stream ends: its pieces are counted to a number that no run reaches. One that cannot be read is its end.
+    fn run<R: Input + Print>(&mut self, rt: &R) -> Result<(), Ended> {
+        let mut input = rt.reader();
+        let mut piece = [0; 65536];
+        for _ in 0..u64::MAX {
+            match input.read(&mut piece) {
+                Ok(0) | Err(_) => return self.finish(rt),
+                Ok(n) => self.take_all(rt, &piece[..n])?,
+            }
+        }
+        Ok(())
     }
 }
 
 fn main(rt: HostRuntime) {
-    let mut piece = [0u8; 65536];
-    let mut image = [0u8; 32768];
-    let mut line = [0u8; 8301];
-    let mut answers = [0u8; 131120];
-    run(&rt, &mut piece, &mut image, &mut line, &mut answers);
+    let mut replay = Replay {
+        player: Player {
+            pool: None,
+            image: [0; 32768],
+            answers: [0; 131120],
+            waiting: 0,
+        },
+        line: Line {
+            bytes: [0; 8301],
+            held: 0,
+        },
+    };
+    let _ = replay.run(&rt);
 }

@@ -1,4 +1,5 @@
 pub mod First
+pub mod Answers
 pub mod Play
 pub mod Said
 pub mod SaidLaws

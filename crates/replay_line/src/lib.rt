@@ -12,16 +12,26 @@ ghost use Rattle.pool.specs.Failing.{fail_record};
 ghost use Rattle.pool.specs.Repairing.{repair_image, repair_record, repair_count};
 ghost use Rattle.trace.specs.Forms.{kind_of, bytes_of};
 ghost use Rattle.answers.specs.Decimal.{decimal, printed};
-ghost use Rattle.replay_line.specs.First.{first_refusal, first_of};
+ghost use Rattle.replay_line.specs.First.{first_of};
+ghost use Rattle.replay_line.specs.Answers.{first_by, played_by};
 ghost use Rattle.replay_line.specs.Play.{roomy, Plays};
 ghost use Rattle.replay_line.specs.Said.{Said};
 
 use homes::Record;
+use lists::Refusal;
 use numbers::Layout;
+use trace::Kind;
 
 // ---- the first line
 
-// What a first line tells: the layout, and how many bytes the image of its pool has; zeros where it is refused.
+// What a first line tells: the layout, and how many bytes the image of its pool has.
+#[derive(Clone, Copy)]
+pub struct Beginning {
+    pub layout: Layout,
+    pub image: u64,
+}
+
+// What C is handed: the refusal's number, 0 where there is none, and what the line tells; zeros where refused.
 #[repr(C)]
 #[derive(Clone, Copy)]
 pub struct FirstLine {
@@ -30,44 +40,42 @@ pub struct FirstLine {
     pub image: u64,
 }
 
-// 13 where the line is malformed, 1 where its numbers are refused, 13 where its pool is too large for a replay.
-fn first_refusal(line: &[u8]) -> u64
-    ensures { result ≡ first_refusal line.now }
-{
-    if !trace::is_layout(line) {
-        return 13;
+impl From<Result<Beginning, Refusal>> for FirstLine {
+    ghost from_gives = { λ answer line. line ≡ first_by answer };
+
+    fn from(answer: Result<Beginning, Refusal>) -> Self {
+        match answer {
+            Ok(Beginning { layout, image }) => FirstLine {
+                refusal: 0,
+                layout,
+                image,
+            },
+            Err(refusal) => FirstLine {
+                refusal: refusal.into(),
+                layout: numbers::no_layout(),
+                image: 0,
+            },
+        }
     }
-    let y = trace::layout_at(line, 0);
-    let refusal = numbers::refusal(y);
-    if refusal != 0 {
-        return refusal;
-    }
-    let m = numbers::numbers_of(y);
-    if 32768 < m.image {
-        return 13;
-    }
-    0
 }
 
-// The layout that a replay starts from.
-pub fn first(line: &[u8]) -> FirstLine
-    ensures { result ≡ first_of line.now }
+// The layout that a replay starts from. Refused where the line is malformed, where its numbers are, and where its pool is too large for a replay.
+pub fn first(line: &[u8]) -> Result<Beginning, Refusal>
+    ensures { first_by result ≡ first_of line.now }
 {
-    let refusal = first_refusal(line);
-    if refusal != 0 {
-        return FirstLine {
-            refusal,
-            layout: numbers::no_layout(),
-            image: 0,
-        };
+    if !trace::is_layout(line) {
+        return Err(Refusal::BadTrace);
     }
     let layout = trace::layout_at(line, 0);
+    numbers::check(layout)?;
     let m = numbers::numbers_of(layout);
-    FirstLine {
-        refusal: 0,
+    if 32768 < m.image {
+        return Err(Refusal::BadTrace);
+    }
+    Ok(Beginning {
         layout,
         image: m.image,
-    }
+    })
 }
 
 // ---- answers
@@ -103,7 +111,7 @@ fn say_bytes(y: Layout, r: Record, image: &[u8], offset: u64, size: usize, answe
     let end = begins + size;
     answer[0] = 48;
     answer[1] = 32;
-    pool_read::read(y, r, image, offset, &mut answer[begins..end]);
+    let _ = pool_read::read(y, r, image, offset, &mut answer[begins..end]);
     answers::spread_hex(answer, 2, size);
     answer[end] = 10;
     end as u64 + 1
@@ -111,13 +119,40 @@ fn say_bytes(y: Layout, r: Record, image: &[u8], offset: u64, size: usize, answe
 
 // ---- one event
 
-// What a played line leaves beside image and answer. Refused, `length` is 0 and `rec` is the record that was given.
+// What a played line leaves beside image and answer: how long the answer is, and the record.
+#[derive(Clone, Copy)]
+pub struct Event {
+    pub length: u64,
+    pub rec: Record,
+}
+
+// What C is handed: the refusal's number, 0 where there is none. Refused, `length` is 0 and `rec` is the record that was given.
 #[repr(C)]
 #[derive(Clone, Copy)]
 pub struct Played {
     pub refusal: u64,
     pub length: u64,
     pub rec: Record,
+}
+
+impl Played {
+    // The answer of a call that this record was given.
+    pub fn new(r: Record, answer: Result<Event, Refusal>) -> Self
+        ensures { result ≡ played_by r answer }
+    {
+        match answer {
+            Ok(Event { length, rec }) => Played {
+                refusal: 0,
+                length,
+                rec,
+            },
+            Err(refusal) => Played {
+                refusal: refusal.into(),
+                length: 0,
+                rec: r,
+            },
+        }
+    }
 }
 
 // Where the write is refused, its number is said, and the image is as it was. A line has at most 4,140 bytes to write.
@@ -131,47 +166,38 @@ fn play_write(y: Layout, r: Record, image: &mut [u8], line: &[u8], answer: &mut 
     let count = trace::byte_count(line);
     hex_text::tell_bytes(line, 20, &mut bytes, 0, count);
     let offset = hex_text::number_at(line, 3, 16);
-    let number = pool_write::write(y, r, image, offset, &bytes[..count]);
+    let number = lists::answer_number(pool_write::write(y, r, image, offset, &bytes[..count]));
     say(number, answer)
 }
 
-fn play_fail(y: Layout, r: Record, image: &[u8], line: &[u8], answer: &mut [u8]) -> Played
+fn play_fail(y: Layout, r: Record, image: &[u8], line: &[u8], answer: &mut [u8]) -> Event
     requires { (kind_of line.now ≡ 2) × (24 ≤ length answer.old) }
-    ensures { (result.refusal ≡ 0) × (result.rec ≡ fail_record y r (length image.now) (number_at line.now 3 2))
+    ensures { (result.rec ≡ fail_record y r (length image.now) (number_at line.now 3 2))
         × Said (printed (fail_refusal y r (length image.now) (number_at line.now 3 2)) []) answer.old result.length answer.new }
 {
     let target = hex_text::number_at(line, 3, 2);
     let failed = pool_fail::fail(y, r, image, target);
-    let rec = failed.rec;
-    let length = say(failed.refusal, answer);
-    Played {
-        refusal: 0,
-        length,
-        rec,
+    Event {
+        length: say(lists::answer_number(failed), answer),
+        rec: failed.unwrap_or(r),
     }
 }
 
-fn play_repair(y: Layout, r: Record, image: &mut [u8], answer: &mut [u8]) -> Played
+fn play_repair(y: Layout, r: Record, image: &mut [u8], answer: &mut [u8]) -> Event
     requires { 24 ≤ length answer.old }
-    ensures { (result.refusal ≡ 0) × (result.rec ≡ repair_record y r (length image.old)) × (image.new ≡ repair_image y r image.old)
+    ensures { (result.rec ≡ repair_record y r (length image.old)) × (image.new ≡ repair_image y r image.old)
         × Said (printed (repair_refusal y r (length image.old)) (32 ∷ decimal (repair_count y r (length image.old))))
         answer.old result.length answer.new }
 {
-    let repaired = pool_repair::repair(y, r, image);
-    let rec = repaired.rec;
-    if repaired.refusal != 0 {
-        let length = say(repaired.refusal, answer);
-        return Played {
-            refusal: 0,
-            length,
-            rec,
-        };
-    }
-    let length = say_count(repaired.count, answer);
-    Played {
-        refusal: 0,
-        length,
-        rec,
+    match pool_repair::repair(y, r, image) {
+        Ok(mended) => Event {
+            length: say_count(mended.count, answer),
+            rec: mended.rec,
+        },
+        Err(refusal) => Event {
+            length: say(refusal.into(), answer),
+            rec: r,
+        },
     }
 }
 
@@ -183,53 +209,47 @@ fn play_read(y: Layout, r: Record, image: &[u8], line: &[u8], answer: &mut [u8])
 {
     let offset = hex_text::number_at(line, 3, 16);
     let size = hex_text::number_at(line, 20, 16) as usize;
-    let refusal = checks::range_refusal(y, r, image.len(), offset, size);
-    if refusal != 0 {
-        return say(refusal, answer);
+    match checks::check_range(y, r, image.len(), offset, size) {
+        Ok(()) => say_bytes(y, r, image, offset, size, answer),
+        Err(refusal) => say(refusal.into(), answer),
     }
-    say_bytes(y, r, image, offset, size, answer)
 }
 
 // Whether every answer that a pool with this image can give fits.
 fn has_room(image: usize, answer: usize) -> bool
     ensures { result ≡ roomy image answer }
 {
-    if answer < 24 {
-        return false;
-    }
-    image <= (answer - 24) / 2
+    24 <= answer && image <= (answer - 24) / 2
 }
 
 // Plays one line: makes the call that it tells, and says in `answer` what the call answers; a malformed line is answered with 13.
-pub fn play(y: Layout, r: Record, image: &mut [u8], line: &[u8], answer: &mut [u8]) -> Played
-    ensures { Plays y r image.old line.now answer.old result image.new answer.new }
+pub fn play(
+    y: Layout,
+    r: Record,
+    image: &mut [u8],
+    line: &[u8],
+    answer: &mut [u8],
+) -> Result<Event, Refusal>
+    ensures { Plays y r image.old line.now answer.old (played_by r result) image.new answer.new }
 {
     if !has_room(image.len(), answer.len()) {
         lists::clear(answer);
-        return Played {
-            refusal: 5,
-            length: 0,
-            rec: r,
-        };
+        return Err(Refusal::BufferLength);
     }
-    let kind = trace::kind_of(line);
-    if kind == 2 {
-        return play_fail(y, r, image, line, answer);
-    }
-    if kind == 3 {
-        return play_repair(y, r, image, answer);
-    }
-    let mut length = 0;
-    if kind == 1 {
-        length = play_write(y, r, image, line, answer);
-    } else if kind == 4 {
-        length = play_read(y, r, image, line, answer);
-    } else {
-        length = say(13, answer);
-    }
-    Played {
-        refusal: 0,
-        length,
-        rec: r,
+    match trace::find_kind(line) {
+        Some(Kind::Write) => {
+            let length = play_write(y, r, image, line, answer);
+            Ok(Event { length, rec: r })
+        }
+        Some(Kind::Fail) => Ok(play_fail(y, r, image, line, answer)),
+        Some(Kind::Repair) => Ok(play_repair(y, r, image, answer)),
+        Some(Kind::Read) => {
+            let length = play_read(y, r, image, line, answer);
+            Ok(Event { length, rec: r })
+        }
+        None => {
+            let length = say(13, answer);
+            Ok(Event { length, rec: r })
+        }
     }
 }

@@ -1,31 +1,36 @@
--- `replay_line::first` meets its contract: refused with its number and zeros, or accepted with the layout.
-use mathlib.Core.Path.{sym, ap, ◌∙◌, subst}
-use Prim.Native.Nat.{ℕ}
+-- `replay_line::first` meets its contract: each return is what the tests that led there say.
+use mathlib.Core.Path.{refl, sym, ◌∙◌}
 use native.Mathlib.Omega.{arith}
-use Rattle.lists.specs.Refusal.{refused-answer, accepted_answer}
-use Rattle.numbers.specs.declared.Layout.{Layout}
-use Rattle.numbers.specs.Layouts.{Valid, image_length}
-use Rattle.numbers.specs.Refused.{no_layout}
-use Rattle.replay_line.specs.declared.FirstLine.{FirstLine}
-use Rattle.replay_line.specs.First.{first_of}
-use Rattle.replay_line.specs.FirstLaws.{layout-length, first_asked}
+use Rattle.lists.specs.declared.Refusal.TheVariants.{BadTrace}
+use Rattle.lists.proofs.Answering.{refused}
+use Rattle.numbers.specs.Refused.{good-layout}
+use Rattle.replay_line.specs.FirstLaws.{layout-length, first_malformed_lem, first_bad, first_large, first_good}
+use Rattle.replay_line.proofs.FirstLaws.{first_refused, first_handed, first_told}
 use Rattle.replay_line.proofs.first.Goals as goal
 
-abbrev answer : ℕ → ℕ → Layout → FirstLine
-answer n m y = record { refusal = n; layout = y; image = m }
-
-pub returns-then-refusal-ne0 : goal.returns-then-refusal-ne0
-unfolding first_of
-returns-then-refusal-ne0 c = ap (answer c.first_refusal-refusal.result 0) c.no_layout.ensures
-    ∙ refused-answer (λ (n : ℕ). answer n 0 no_layout) _ c.first_refusal-refusal.ensures c.if-refusal-ne0.true
+pub returns-then-not-is_layout : goal.returns-then-not-is_layout
+returns-then-not-is_layout c = first_refused c.args.line.now BadTrace (first_malformed_lem c.args.line.now (sym c.is_layout.ensures ∙ c.if-not-is_layout.true))
 
 pub layout_at-layout-requires : goal.layout_at-layout-requires
-layout_at-layout-requires c = omega (arith, layout-length c.args.line.now (first_asked _ (sym c.first_refusal-refusal.ensures ∙ c.if-refusal-ne0.false)).formed)
+layout_at-layout-requires c = let l = layout-length c.args.line.now (sym c.is_layout.ensures ∙ c.if-not-is_layout.false) in omega (arith, l)
+
+pub returns-in_err-check : goal.returns-in_err-check
+returns-in_err-check c =
+    first_handed c.args.line.now _ c.in_err-check.field-0.0 c.from_residual.ensures.1
+    (first_bad c.args.line.now (sym c.is_layout.ensures ∙ c.if-not-is_layout.false) c.layout_at-layout.ensures c.in_err-check.ensures (refused _))
 
 pub numbers_of-m-requires : goal.numbers_of-m-requires
-numbers_of-m-requires c = subst Valid (sym c.layout_at-layout.ensures) (first_asked _ (sym c.first_refusal-refusal.ensures ∙ c.if-refusal-ne0.false)).valid
+numbers_of-m-requires c = good-layout _ c.in_ok-check.ensures refl
+
+pub returns-then-m-gt32768 : goal.returns-then-m-gt32768
+returns-then-m-gt32768 c =
+    first_refused c.args.line.now BadTrace
+    (first_large c.args.line.now (sym c.is_layout.ensures ∙ c.if-not-is_layout.false) c.layout_at-layout.ensures (good-layout _ c.in_ok-check.ensures refl)
+    c.numbers_of-m.ensures.image_is c.if-m-gt32768.true)
 
 pub returns : goal.returns
-unfolding first_of
-returns c = (λ i. answer 0 ((c.numbers_of-m.ensures.image_is ∙ ap image_length c.layout_at-layout.ensures) i) (c.layout_at-layout.ensures i))
-    ∙ accepted_answer _ _ c.first_refusal-refusal.ensures c.if-refusal-ne0.false
+returns c =
+    first_told c.args.line.now
+    (first_good c.args.line.now (sym c.is_layout.ensures ∙ c.if-not-is_layout.false) c.layout_at-layout.ensures (good-layout _ c.in_ok-check.ensures refl)
+    c.numbers_of-m.ensures.image_is (omega arith))
+    c.layout_at-layout.ensures c.numbers_of-m.ensures.image_is

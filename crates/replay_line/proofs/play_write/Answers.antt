@@ -3,9 +3,11 @@ use Prim.Native.Nat.{ℕ, ◌*◌}
 use mathlib.Core.Path.{sym, ap, ◌∙◌}
 use native.Mathlib.Omega.{arith}
 use lib.Seq.{length-take-le}
+use mathlib.Core.List.{[]}
 use Rattle.hex_text.specs.Digit.{digits_at}
 use Rattle.trace.specs.FormLaws.{write_length, write_digits}
-use Rattle.replay_line.specs.PlayLaws.{bytes_read, write_said}
+use Rattle.answers.specs.Decimal.{printed}
+use Rattle.replay_line.specs.PlayLaws.{said_as, bytes_read, write_said}
 use Rattle.replay_line.proofs.play_write.Goals as goal
 
 pub tell_bytes-requires : goal.tell_bytes-requires
@@ -29,4 +31,5 @@ returns c = let a = c.args in
     let l = write_length c.args.line.now c.requires.0 in
     let e = c.byte_count-count.ensures in
     write_said a.y a.r a.image.now a.line.now a.answer.now c.number_at-offset.ensures
-    (bytes_read a.line.now _ _ e (omega (arith, l.0, l.1, e)) c.tell_bytes.ensures) c.write-number.ensures c.say.ensures
+    (bytes_read a.line.now _ _ e (omega (arith, l.0, l.1, e)) c.tell_bytes.ensures) c.write.ensures
+    (said_as (ap (λ (n : ℕ). printed n []) c.answer_number-number.ensures) c.say.ensures)
