@@ -9,13 +9,7 @@ use lists::Refusal;
 use numbers::Layout;
 use place::Place;
 
-fn check_line(
-    y: Layout,
-    image: usize,
-    target: u64,
-    frame: u64,
-    line: usize,
-) -> Result<(), Refusal>
+fn check_line(y: Layout, image: usize, target: u64, frame: u64, line: usize) -> Result<(), Refusal>
     ensures { answer_number result ≡ hex_refusal y image target frame line }
 {
     numbers::check(y)?;
