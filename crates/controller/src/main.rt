@@ -2,6 +2,8 @@
 // also where the units of a group disagree; then plans that are refused, wrong pools, and buffers for a plan.
 #![tactic(auto)]
 
+ghost use Rattle.std.specs.Prelude.{◌<◌, ◌^◌};
+
 use homes::Record;
 use numbers::Layout;
 use pool_repair::Mended;
@@ -173,7 +175,9 @@ fn unchanged<const SIZE: usize>(
     y: Layout,
     r: Record,
     plan: &[u64],
-) -> io::Result<()> {
+) -> io::Result<()>
+    requires { SIZE < 2 ^ 63 }
+{
     let before = [0xaa; SIZE];
     let mut image = before;
     print!(rt; "{what}")?;
@@ -237,7 +241,9 @@ fn wrong_pool<const SIZE: usize>(
     what: &str,
     y: Layout,
     r: Record,
-) -> io::Result<()> {
+) -> io::Result<()>
+    requires { SIZE < 2 ^ 63 }
+{
     let mut plan = [9; 3];
     unchanged::<SIZE>(rt, what, y, r, &plan)?;
     draw(rt, y, r, &[0xaa; SIZE], &mut plan)?;

@@ -3,6 +3,8 @@
 // are not added.
 #![tactic(auto)]
 
+ghost use Rattle.std.specs.Prelude.{◌<◌, ◌^◌};
+
 use numbers::Layout;
 use row_trial::{row, row_of};
 use settings::Unread;
@@ -344,7 +346,9 @@ fn tried<const SIZE: usize>(
     version: u64,
     y: Layout,
     used: usize,
-) -> io::Result<()> {
+) -> io::Result<()>
+    requires { SIZE < 2 ^ 63 }
+{
     let before = [b'.'; SIZE];
     let mut buffer = before;
     let added = settings::add(version, y, &mut buffer, used);

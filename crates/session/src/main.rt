@@ -2,6 +2,8 @@
 // one after the other, also with a drive dead; then lists at the bounds, and lists that are refused.
 #![tactic(auto)]
 
+ghost use Rattle.std.specs.Prelude.{◌<◌, ◌^◌};
+
 use homes::Record;
 use numbers::Layout;
 use row_trial::{get, lose, mend, no_failures, put, record_of, row, row_of, wipe_drive_2};
@@ -128,13 +130,18 @@ fn unchanged<const SIZE: usize, const LENGTH: usize>(
     y: Layout,
     r: Record,
     ranges: &[[u64; 2]],
-) -> io::Result<()> {
+) -> io::Result<()>
+    requires image { SIZE < 2 ^ 63 }
+    requires buffer { LENGTH < 2 ^ 63 }
+{
     let before = [0xaa; SIZE];
     let mut image = before;
     list(rt, y, r, &mut image, &before, ranges, &[b'*'; LENGTH])
 }
 
-fn on_the_row<const LENGTH: usize>(rt: &impl Print, ranges: &[[u64; 2]]) -> io::Result<()> {
+fn on_the_row<const LENGTH: usize>(rt: &impl Print, ranges: &[[u64; 2]]) -> io::Result<()>
+    requires { LENGTH < 2 ^ 63 }
+{
     unchanged::<160, LENGTH>(rt, row(), no_failures(), ranges)
 }
 

@@ -2,6 +2,8 @@
 // no read looks, and after going on in edition 2; a larger row likewise; then moves that are refused.
 #![tactic(auto)]
 
+ghost use Rattle.std.specs.Prelude.{◌<◌, ◌^◌};
+
 use homes::Record;
 use numbers::Layout;
 use pool_repair::Mended;
@@ -235,7 +237,10 @@ fn refused<const OLD: usize, const NEW: usize>(
     what: &str,
     y: Layout,
     r: Record,
-) -> io::Result<()> {
+) -> io::Result<()>
+    requires old { OLD < 2 ^ 63 }
+    requires new { NEW < 2 ^ 63 }
+{
     let old = [0xaa; OLD];
     let mut new = [0xaa; NEW];
     let answer = Outcome::from(pool_move::move_edition(y, r, &old, &mut new));
