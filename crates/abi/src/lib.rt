@@ -219,20 +219,23 @@ pub struct Repaired {
     pub rec: Record,
 }
 
-fn repaired(answer: Result<Mended, Refusal>, r: Record) -> Repaired
-    ensures { (result.refusal ≡ answer_number answer) × (result.count ≡ count_of answer) × (result.rec ≡ rec_of answer r) }
-{
-    match answer {
-        Ok(mended) => Repaired {
-            refusal: 0,
-            count: mended.count,
-            rec: mended.rec,
-        },
-        Err(refusal) => Repaired {
-            refusal: refusal.into(),
-            count: 0,
-            rec: r,
-        },
+impl Repaired {
+    // Of a repair that was given the record r.
+    fn of(answer: Result<Mended, Refusal>, r: Record) -> Self
+        ensures { (result.refusal ≡ answer_number answer) × (result.count ≡ count_of answer) × (result.rec ≡ rec_of answer r) }
+    {
+        match answer {
+            Ok(mended) => Repaired {
+                refusal: 0,
+                count: mended.count,
+                rec: mended.rec,
+            },
+            Err(refusal) => Repaired {
+                refusal: refusal.into(),
+                count: 0,
+                rec: r,
+            },
+        }
     }
 }
 
@@ -240,7 +243,7 @@ fn repaired(answer: Result<Mended, Refusal>, r: Record) -> Repaired
 pub extern "C" fn splicebell_repair(y: Layout, r: Record, image: &mut [u8]) -> Repaired
     ensures { Repairs y r image.old result.refusal result.count result.rec image.new }
 {
-    repaired(pool_repair::repair(y, r, image), r)
+    Repaired::of(pool_repair::repair(y, r, image), r)
 }
 
 #[unsafe(no_mangle)]
@@ -259,7 +262,7 @@ pub extern "C" fn splicebell_repair_by(
 ) -> Repaired
     ensures { RepairsBy y r image.old plan.now result.refusal result.count result.rec image.new }
 {
-    repaired(pool_plan::repair_by(y, r, image, plan), r)
+    Repaired::of(pool_plan::repair_by(y, r, image, plan), r)
 }
 
 // How many numbers of the buffer the plan takes, from the first on; 0 where refused.
