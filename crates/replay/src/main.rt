@@ -5,7 +5,9 @@
 ghost use Rattle.std.specs.Prelude.{◌≤◌};
 
 use homes::Record;
+use lists::Refusal;
 use numbers::Layout;
+use replay_line::Event;
 use std::io::Read;
 
 // The run is over.
@@ -26,6 +28,22 @@ struct Pool {
     layout: Layout,
     rec: Record,
     size: usize,
+}
+
+impl Pool {
+    // The answer is laid after those that wait.
+    fn play(
+        self,
+        image: &mut [u8],
+        line: &[u8],
+        answers: &mut [u8],
+        waiting: usize,
+    ) -> Result<Event, Refusal> {
+        let size = self.size.min(image.len());
+        let from = waiting.min(answers.len());
+        let rest = &mut answers[from..];
+        replay_line::play(self.layout, self.rec, &mut image[..size], line, rest)
+    }
 }
 
 // The pool of a replay, its image, and the answers that wait to be written.
@@ -64,22 +82,14 @@ impl Player {
         Ok(())
     }
 
-    // One event, whose answer is laid after those that wait. These are written where half of the buffer is full: it has room for the longest answer twice.
+    // One event. The answers that wait are written where half of the buffer is full: it has room for the longest answer twice.
     fn event(&mut self, rt: &impl Print, pool: Pool, line: &[u8]) -> Result<(), Ended> {
         if 65560 < self.waiting {
             self.flush(rt)?;
         }
-        let size = pool.size.min(self.image.len());
-        let waiting = self.waiting.min(self.answers.len());
-        let played = replay_line::play(
-            pool.layout,
-            pool.rec,
-            &mut self.image[..size],
-            line,
-            &mut self.answers[waiting..],
-        );
+        let played = pool.play(&mut self.image, line, &mut self.answers, self.waiting);
         if let Ok(event) = played {
-            self.waiting = waiting.saturating_add(event.length as usize);
+            self.waiting = self.waiting.saturating_add(event.length as usize);
             self.pool = Some(Pool {
                 rec: event.rec,
                 ..pool
@@ -116,9 +126,10 @@ struct Replay {
 impl Replay {
     // The line that is held.
     fn play_held(&mut self, rt: &impl Print) -> Result<(), Ended> {
-        let held = self.line.held;
-        self.line.held = 0;
-        self.player.play(rt, &self.line.bytes[..held])
+        let line = &mut self.line;
+        let played = self.player.play(rt, &line.bytes[..line.held]);
+        line.held = 0;
+        played
     }
 
     // A line, or the part of it that came. A whole one is played from where it stands; else it is kept.
@@ -127,8 +138,8 @@ impl Replay {
         if whole && self.line.held == 0 {
             return self.player.play(rt, part);
         }
-        let held = self.line.held;
-        self.line.held = line_cursor::keep(part, 0, part.len(), &mut self.line.bytes, held);
+        let line = &mut self.line;
+        line.held = line_cursor::keep(part, 0, part.len(), &mut line.bytes, line.held);
         if whole {
             self.play_held(rt)?;
         }
