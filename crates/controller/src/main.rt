@@ -261,16 +261,17 @@ fn wrong_pools(rt: &impl Print) -> io::Result<()> {
 }
 
 // Our planner is lent the first numbers of a buffer, all of which is shown.
+fn lend(rt: &impl Print, buffer: &mut [u64], size: usize) -> io::Result<()> {
+    let lent = size.min(buffer.len());
+    draw(rt, row(), drive_2_dead(), &[0xaa; 192], &mut buffer[..lent])?;
+    list(rt, buffer)
+}
+
 fn buffers(rt: &impl Print) -> io::Result<()> {
-    let image = [0xaa; 192];
     let mut exact = [9; 12];
-    draw(rt, row(), drive_2_dead(), &image, &mut exact[..7])?;
-    list(rt, &exact)?;
-    draw(rt, row(), drive_2_dead(), &image, &mut exact[..8])?;
-    list(rt, &exact)?;
-    let mut longer = [9; 12];
-    draw(rt, row(), drive_2_dead(), &image, &mut longer)?;
-    list(rt, &longer)
+    lend(rt, &mut exact, 7)?;
+    lend(rt, &mut exact, 8)?;
+    lend(rt, &mut [9; 12], 12)
 }
 
 fn main(rt: HostRuntime) -> io::Result<()> {

@@ -50,9 +50,20 @@ fn store(
     println!(rt; "A kiosk stores {} at {offset}: {answer}", Ascii(bytes))
 }
 
-// A drive dies: what stood on it is still to be wiped.
-fn lose(rt: &impl Print, y: Layout, r: Record, image: &[u8], drive: u64) -> io::Result<Record> {
+// A drive dies, and what stood on it is gone: the bytes from `from` up to `to`.
+fn lose(
+    rt: &impl Print,
+    y: Layout,
+    r: Record,
+    image: &mut [u8],
+    drive: u64,
+    from: usize,
+    to: usize,
+) -> io::Result<Record> {
     let failed = pool_fail::fail(y, r, image, drive);
+    if from <= to && to <= image.len() {
+        image[from..to].fill(255);
+    }
     println!(rt; "Drive {drive} dies: {}", Outcome::from(failed))?;
     Ok(failed.unwrap_or(r))
 }
@@ -152,8 +163,7 @@ fn there_and_back(rt: &impl Print, first: &[u8; 160]) -> io::Result<[u8; 160]> {
 fn with_a_drive_dead(rt: &impl Print, first: &[u8; 160], second: &[u8; 160]) -> io::Result<()> {
     println!(rt; "Drive 2 is dead, then repaired")?;
     let mut image = *first;
-    let failed = lose(rt, row(), no_failures(), &image, 2)?;
-    image[64..96].fill(255);
+    let failed = lose(rt, row(), no_failures(), &mut image, 2, 64, 96)?;
     moved(rt, row(), failed, &image, "the first move", second)?;
     let mended = mend(rt, row(), failed, &mut image)?;
     let new = moved(rt, row(), mended, &image, "the first move", second)?;
@@ -186,8 +196,7 @@ fn on_in_edition_2(rt: &impl Print, second: &[u8; 160]) -> io::Result<()> {
     let r = no_failures();
     let mut image = *second;
     store(rt, y, r, &mut image, 50, b"a brown bag with one strap")?;
-    let failed = lose(rt, y, r, &image, 1)?;
-    image[32..64].fill(255);
+    let failed = lose(rt, y, r, &mut image, 1, 32, 64)?;
     store(rt, y, failed, &mut image, 9, b"23.4 kg")?;
     show_both(rt, failed, &image)?;
     let mended = mend(rt, y, failed, &mut image)?;
@@ -221,11 +230,9 @@ fn on_eight_drives(rt: &impl Print) -> io::Result<()> {
     println!(rt; "A row of eight drives and two tiles")?;
     let first = stored_large();
     let mut image = first;
-    let failed = lose(rt, large_row(1), no_failures(), &image, 2)?;
-    image[96..144].fill(255);
+    let failed = lose(rt, large_row(1), no_failures(), &mut image, 2, 96, 144)?;
     let mended = mend(rt, large_row(1), failed, &mut image)?;
-    let both = lose(rt, large_row(1), mended, &image, 5)?;
-    image[240..288].fill(255);
+    let both = lose(rt, large_row(1), mended, &mut image, 5, 240, 288)?;
     large_moved(rt, both, &image, &first)
 }
 
