@@ -38,7 +38,7 @@ impl Generator {
         ensures { result.state ≡ start_of cookie tile }
     {
         Generator {
-            state: cookie.wrapping_add(Self::SPREAD.wrapping_mul(tile)),
+            state: cookie.wrapping_add(wrapping_mul(Self::SPREAD, tile)),
         }
     }
 
@@ -47,9 +47,7 @@ impl Generator {
         ensures { result.state ≡ next_of self.state }
     {
         Generator {
-            state: Self::MULTIPLIER
-                .wrapping_mul(self.state)
-                .wrapping_add(Self::INCREMENT),
+            state: wrapping_mul(Self::MULTIPLIER, self.state).wrapping_add(Self::INCREMENT),
         }
     }
 
