@@ -1,9 +1,22 @@
--- The inverse by stores: where entry (a at k) of b is k for each k below 64, b is the inverse of a.
-use Rattle.std.specs.Prelude.{◌≡◌, ℕ, ◌<◌, ◌≤◌, List, length, ◌≢◌}
-use Rattle.std.proofs.Common.{sym, ap, ◌∙◌, subst, le_refl}
+-- The inverse by stores: entry (a at k) of b is k, for each k below t, and then below t + 1; at 64 the list is the inverse.
+use Rattle.std.specs.Prelude.{◌≡◌, ℕ, ◌+◌, ◌<◌, ◌≤◌, List, length, ◌≢◌, slice_set}
+use Rattle.std.proofs.Common.{sym, ap, ◌∙◌, subst, le_refl, arith, get_or-set_same, get_or-set_other}
+use Rattle.lists.specs.Pick.{equal_or_not}
 use Rattle.lists.specs.Tabulate.{at, tabulated}
+use Rattle.lists.specs.Bijection.{injective}
 use Rattle.tile.specs.Permutation.{index_of, inverse_of}
 use Rattle.tile.specs.Laws.{Permutes, index_undoes, at-inverse}
+
+pub store_next : (a b : List ℕ) (t : ℕ) → Permutes 64 a → length b ≡ 64 → t < 64 → ((k : ℕ) → k < t → at b (at a k) ≡ k) → (k : ℕ) → k < t + 1 → at (slice_set b (at a t) t) (at a k) ≡ k
+store_next a b t p lb ht inv k hk =
+    equal_or_not k t
+    (λ (e : k ≡ t).
+    ap (λ (x : ℕ). at (slice_set b (at a t) t) (at a x)) e
+    ∙ get_or-set_same b (at a t) t 0 (subst (λ (n : ℕ). at a t < n) (sym lb) (p.1.into t ht))
+    ∙ sym e)
+    (λ (ne : k ≡ t → ⊥).
+    let lt : k < t = omega arith in
+    get_or-set_other b (at a t) (at a k) t 0 (λ q. ne (injective p.1 k t (omega arith) ht q)) ∙ inv k lt)
 
 pub stores_inverse : (a b : List ℕ) → Permutes 64 a → length a ≡ 64 → length b ≡ 64 → ((k : ℕ) → k < 64 → at b (at a k) ≡ k) → b ≡ inverse_of a
 unfolding inverse_of
