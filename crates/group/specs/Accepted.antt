@@ -1,13 +1,13 @@
 -- The table of a rebuild by the tests that were made, and what an accepted call has shown: all that the work on the buffer asks for.
 use Rattle.std.specs.Prelude.{◌≡◌, refl, true, false, List, [], ◌∷◌, ℕ, ◌*◌, ◌<◌, ◌≤◌, eqb, ltb, leb, length, get_or, All}
 use Rattle.std.proofs.Math.Path.{sym}
-use Rattle.std.proofs.Common.{mul-le-mul_right, arith}
+use Rattle.std.proofs.Common.{◌∙◌, mul-le-mul_right, arith}
 use Rattle.std.proofs.lemmas.List.Elements.{All-get_or, All-from_get_or}
 use borrow.Author.Tests.{lt-ltb, eqb-true, ltb-true, leb-true, eq-eqb, ne_eqb, le-leb, lt-leb}
 use Rattle.lists.specs.Pick.{not-both_ways}
 use Rattle.lists.specs.Count.{count}
 use Rattle.lists.specs.Search.{all-at, all_true}
-use Rattle.lists.specs.Refusal.{◌or_else◌, refusal_by, refusal_lowest}
+use Rattle.lists.specs.Refusal.{◌or_else◌, refusal_by, unless, unless-zero, refusal_lowest}
 use Rattle.numbers.specs.declared.Layout.{Layout}
 use Rattle.numbers.specs.Layouts.{Valid, contents}
 use Rattle.numbers.specs.Refused.{validb, valid_of, valid_true}
@@ -62,6 +62,10 @@ module _ (y : Layout) (v : Valid y) (missing : List ℕ) (len : ℕ) where
   pub unit_refused : each_below (contents y) missing ≡ false → 4 ≡ rebuild_refusal y missing len
   unfolding rebuild_refusal refusal_by ◌or_else◌
   unit_refused t = sym (simp (valid_true y v, t))
+
+  module _ {r : ℕ} (e : r ≡ unless (each_below (contents y) missing) 4) (z : r ≡ 0) where
+    pub each_below_lem : each_below (contents y) missing ≡ true
+    each_below_lem = unless-zero (each_below (contents y) missing) 3 (sym e ∙ z)
 
   module _ (below : each_below (contents y) missing ≡ true) where
     pub below_19 : (i : ℕ) → i < length missing → get_or missing i 0 < 19

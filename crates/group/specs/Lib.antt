@@ -2,3 +2,4 @@ pub mod Encode
 pub mod Rebuild
 pub mod Flags
 pub mod Accepted
+pub mod AcceptedByNumber
