@@ -1,5 +1,5 @@
 // Groups and lists of units: drawn ones, and those that are refused.
-ghost use Rattle.std.specs.Prelude.{◌*◌, ◌<◌, ◌≤◌};
+ghost use Rattle.std.specs.Prelude.{take, ◌≡◌, ◌*◌, ◌<◌, ◌≤◌};
 ghost use Rattle.group_trial.specs.Bounds.{Bounded};
 
 use numbers::Layout;
@@ -22,7 +22,9 @@ pub struct Units {
 }
 
 impl Units {
-    pub fn list(&self) -> &[u64] {
+    pub fn list(&self) -> &[u64]
+        ensures { result.now ≡ take self.now.count self.now.at }
+    {
         &self.at[..self.count]
     }
 }
