@@ -51,6 +51,7 @@ fn fill_by_units<T: Copy, F: Fn(Place) -> T>(
     }
 }
 
+// One walk for both: the divisions are made once a group, for its first unit.
 pub fn sites_of(y: Layout, s: Shape, to: &[u8; 64], g: u64) -> Sites
     requires { InTile y s to.now g }
     ensures { Sited y g result }
@@ -58,16 +59,13 @@ pub fn sites_of(y: Layout, s: Shape, to: &[u8; 64], g: u64) -> Sites
     let w = s.w as usize;
     let mut targets = [0u8; 22];
     let mut starts = [0usize; 22];
-    fill_by_units(y, s, to, g, 0, &mut targets[..w], |a| a.target as u8);
-    fill_by_units(
-        y,
-        s,
-        to,
-        g,
-        0,
-        &mut starts[..w],
-        |a| place::spot_of(y, s, a, 0) as usize,
-    );
+    let mut cell = place::cell_of(y, s, g, 0);
+    for u in 0..w {
+        let a = place::place_at(to, cell);
+        targets[u] = a.target as u8;
+        starts[u] = place::spot_of(y, s, a, 0) as usize;
+        cell = place::next_cell(y, cell);
+    }
     Sites { targets, starts }
 }
 
