@@ -73,6 +73,6 @@ pub fn mend_run(p: Plan, image: &mut [u8], c: usize, to: usize)
     ensures { image.new ≡ run_set to p.u (held_run p image.old 0 c) image.old }
 {
     let starts = slot_starts(p, image.len(), 0);
-    let row = p.rows[p.rank[c]];
-    kernel::combine_in(image, to, &starts, &row, p.n, p.u);
+    let coefficients = p.rows[p.rank[c]];
+    kernel::combine_in(image, to, &starts, &coefficients, p.n, p.u);
 }
