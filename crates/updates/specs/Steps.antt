@@ -5,7 +5,7 @@ use Rattle.std.proofs.Common.{◌∙◌, inl, inr, ⊎_elim, mul-le-mul, lt_irre
 use Rattle.std.proofs.Math.Bool.{not}
 use mathlib.Core.List.{List, []}
 use Rattle.std.proofs.Math.ListN.{get_or}
-use Rattle.lists.specs.Pick.{pick, both, pick_true, pick-false}
+use Rattle.lists.specs.Pick.{pick, both, pick_true, pick-false, clash}
 use Rattle.lists.specs.Part.{within, within_cases}
 use Rattle.lists.specs.Count.{count-zero}
 use Rattle.lists.specs.Span.{Span}
@@ -35,9 +35,23 @@ absent m x e = ap (λ (t : Bool). both (not t) x) e
 pub present : (m x : Bool) → m ≡ false → both (not m) x ≡ x
 present m x e = ap (λ (t : Bool). both (not t) x) e
 
+-- nothing is stored, or the run
+pub kept_off : (t b : Bool) (x y : List ℕ) → b ≡ t → not b ≡ true → y ≡ pick t x y
+kept_off true true x y e h = clash true refl (sym h)
+kept_off true false x y e h = clash true refl (sym e)
+kept_off false b x y e h = refl
+
+pub kept_on : (t b : Bool) (x x' y : List ℕ) → b ≡ t → not b ≡ false → x ≡ x' → x ≡ pick t x' y
+kept_on true b x x' y e h q = q
+kept_on false true x x' y e h q = clash true refl e
+kept_on false false x x' y e h q = clash true refl h
+
 -- ---- parity
 
 -- a run lies in the image
+pub data_in : (P : Plan) (size lo len c : ℕ) → Fits P size → lo + len ≤ P.u → c < P.n → at_of P c + lo + len ≤ size
+data_in P size lo len c f r h = omega (arith, f.inside c (omega arith))
+
 pub parity_in : (P : Plan) (size lo len i : ℕ) → Fits P size → lo + len ≤ P.u → i < P.k → at_of P (P.n + i) + lo + len ≤ size
 parity_in P size lo len i f r h = omega (arith, f.inside (P.n + i) (omega arith))
 
