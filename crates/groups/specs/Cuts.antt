@@ -1,13 +1,15 @@
 -- Which data units are named at the unit offsets between two cuts.
-use Rattle.std.specs.Prelude.{◌≡◌, ◌⊎◌, true, false, ℕ, ◌+◌, ◌-◌, ◌*◌, ◌<◌, ◌≤◌, ltb}
+use Rattle.std.specs.Prelude.{◌≡◌, ◌⊎◌, true, false, ℕ, ◌+◌, ◌-◌, ◌*◌, ◌/◌, ◌%◌, ◌<◌, ◌≤◌, min, max, ltb}
 use Rattle.std.proofs.Math.Path.{sym}
-use Rattle.std.proofs.Common.{subst, ◌∙◌, ⊎_elim, arith, mul-le-mul_left, le_refl, ltb-true, ltb-false}
+use Rattle.std.proofs.Common.{subst, ◌∙◌, inl, inr, ⊎_elim, arith, mul-le-mul_left, mul_comm, le_refl, mod-lt, ltb-true, ltb-false}
+use Rattle.std.proofs.Math.Nat.{div-add-mod}
 use Rattle.lists.specs.Pick.{pick, pick_true, pick-false, either_way, below_or_not}
 use Rattle.lists.specs.Part.{within_in, within-before, within-after, within-true}
+use Rattle.lists.specs.Digits.{div_below}
 use Rattle.plan.specs.declared.Plan.{Plan}
 use Rattle.updates.specs.Writing.{RunFits}
 use Rattle.lists.specs.Between.{between, between_in, between-before, between-after, between-true, next}
-use Rattle.groups.specs.Write.{name_at, Cut, Uncut}
+use Rattle.groups.specs.Write.{name_at, Named, Cut, Uncut}
 
 -- the first unit of which the byte at unit offset lo is at or after byte o of unit v
 abbrev pub unit_from : ℕ → ℕ → ℕ → ℕ
@@ -78,6 +80,51 @@ module _ (P : Plan) (s a count v1 o1 v2 o2 lo hi : ℕ) (cut : Cut P.n P.u s a (
 
       above : P.u * v2 + o2 ≤ P.u * j + o → a + count ≤ s + (P.u * j + o)
       above h = ⊎_elim (λ w. omega (arith, w.1, room)) (λ (w : a + count ≡ s + (P.u * v2 + o2)). omega arith) cut.high
+
+-- ---- the ends of the named bytes
+
+pub cut_some : (n u s a count d : ℕ) → Named n u s a count → d ≡ min (a + count - s) (n * u) → 1 ≤ d
+cut_some n u s a count d nm ed = omega (arith, next u 0 n nm.n_pos, mul_comm n u, nm.u_pos, nm.after)
+
+pub cut_made : (n u s a count b d : ℕ) → Named n u s a count → b ≡ a - s → d ≡ min (a + count - s) (n * u)
+    → Cut n u s a (a + count) (b / u) (b % u) ((d - 1) / u) ((d - 1) % u + 1)
+cut_made n u s a count b d nm eb ed =
+    let pos = nm.u_pos in
+    let bf = nm.before in
+    let af = nm.after in
+    let some = cut_some n u s a count d nm ed in
+    let flip : n * u ≡ u * n = mul_comm n u in
+    let eb' = div-add-mod b u in
+    let ed' = div-add-mod (d - 1) u in
+    let mb = mod-lt b pos in
+    let md = mod-lt (d - 1) pos in
+    record {
+      o1_lt = mb;
+      o2_le = omega arith;
+      v1_lt = div_below b u n pos (omega arith);
+      v2_lt = div_below (d - 1) u n pos (omega arith);
+      low = below_or_not s a (λ (h : s < a). inr (omega arith)) (λ (h : a ≤ s). inl (h, omega arith));
+      high = below_or_not (a + count - s) (n * u) (λ (h : a + count - s < n * u). inr (omega arith))
+          (λ (h : n * u ≤ a + count - s). inl (omega arith, omega arith));
+    }
+
+-- the three ranges of unit offsets, cut at both ends
+module _ (n u s a e v1 o1 v2 o2 m : ℕ) (cut : Cut n u s a e v1 o1 v2 o2) where
+  pub part_1 : m ≡ min o1 o2 → Uncut u o1 o2 0 m
+  part_1 em = record { hi-le = omega (arith, cut.o2_le); by_1 = inl (omega arith); by_2 = inl (omega arith) }
+
+  pub part_2 : (m' : ℕ) → m ≡ min o1 o2 → m' ≡ max o1 o2 → Uncut u o1 o2 m m'
+  part_2 m' em em' =
+      let x = cut.o1_lt in
+      let y = cut.o2_le in
+      record {
+        hi-le = omega arith;
+        by_1 = below_or_not o2 o1 (λ (h : o2 < o1). inl (omega arith)) (λ (h : o1 ≤ o2). inr (omega arith));
+        by_2 = below_or_not o2 o1 (λ (h : o2 < o1). inr (omega arith)) (λ (h : o1 ≤ o2). inl (omega arith));
+      }
+
+  pub part_3 : m ≡ max o1 o2 → Uncut u o1 o2 m u
+  part_3 em = record { hi-le = le_refl u; by_1 = inr (omega arith); by_2 = inr (omega arith) }
 
 -- what a run asks
 pub run_fits : (P : Plan) (s a count v1 o1 v2 o2 lo hi u1 u2 : ℕ) → Cut P.n P.u s a (a + count) v1 o1 v2 o2 → Uncut P.u o1 o2 lo hi
