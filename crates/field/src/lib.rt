@@ -63,6 +63,19 @@ fn folded(s: usize) -> usize
     s - turn
 }
 
+// The two tables by value, for `Tables::of`.
+pub fn powers() -> [u8; 256]
+    ensures { Powers result }
+{
+    POWERS
+}
+
+pub fn logs() -> [u8; 256]
+    ensures { Logs result }
+{
+    LOGS
+}
+
 // Both tables. A constant that is indexed where it stands is copied at each use: whoever makes many products makes the tables once and lends
 // them.
 #[derive(Drop)]
@@ -74,11 +87,15 @@ pub struct Tables {
 }
 
 impl Tables {
+    // Of two tables at hand, which keep the rules.
+    pub fn of(powers: [u8; 256], logs: [u8; 256]) -> Self
+        requires { Powers powers × Logs logs }
+    {
+        Tables { powers, logs }
+    }
+
     pub fn new() -> Self {
-        Tables {
-            powers: POWERS,
-            logs: LOGS,
-        }
+        Tables::of(powers(), logs())
     }
 
     // The exponent that gives a, which is not 0.
@@ -115,6 +132,22 @@ impl Tables {
         }
         self.power(255 - self.log(a))
     }
+}
+
+// The product and the inverse by the two tables, for a caller that holds these alone. Each call copies them: where there are many products,
+// `Tables::of` copies them once.
+pub fn mul_by(powers: &[u8; 256], logs: &[u8; 256], a: u8, b: u8) -> u8
+    requires { Powers powers.now × Logs logs.now }
+    ensures { result ≡ product a b }
+{
+    Tables::of(*powers, *logs).mul(a, b)
+}
+
+pub fn inv_by(powers: &[u8; 256], logs: &[u8; 256], a: u8) -> u8
+    requires { Powers powers.now × Logs logs.now }
+    ensures { result ≡ inverse a }
+{
+    Tables::of(*powers, *logs).inv(a)
 }
 
 // The product. By itself it costs a copy of both tables: where there are many, `Tables::mul`.
