@@ -1,12 +1,32 @@
--- A cofactor and the inverse as the code works them out.
-use Rattle.std.specs.Prelude.{◌≡◌, ℕ, get_or}
+-- The cases of an entry of the equations; a cofactor and the inverse as the code works them out.
+use Rattle.std.specs.Prelude.{◌≡◌, ℕ, ◌<◌, ◌≤◌, get_or}
 use Rattle.std.proofs.Math.Path.{ap, ap₂}
-use Rattle.std.proofs.Common.{◌∙◌}
+use Rattle.std.proofs.Common.{◌∙◌, arith}
 use mathlib.Core.List.{List, [], ◌∷◌}
 use Rattle.std.specs.Int.Bits.{bit_xor}
+use borrow.Author.Tests.{lt-ltb, le-ltb, eq-eqb, ne_eqb}
 use Rattle.field.specs.Byte.{◌⊕◌, mul, inv}
+use Rattle.systems.specs.Coef.{coef}
 use Rattle.systems.specs.Cramer.{lo, hi, cof, det, inverse}
 use Rattle.systems.specs.Matrix.{ent, three_of, square_of, dot_of}
+use Rattle.systems.specs.System.{system_entry}
+
+module _ (is ks : List ℕ) (d r c : ℕ) where
+  pub both-within : r < d → c < d → coef (get_or is r 0) (get_or ks c 0) ≡ system_entry is ks d r c
+  unfolding system_entry
+  both-within h k = simp (lt-ltb r d h, lt-ltb c d k)
+
+  pub row_within : r < d → d ≤ c → 0 ≡ system_entry is ks d r c
+  unfolding system_entry
+  row_within h k = simp (lt-ltb r d h, le-ltb c d k, ne_eqb r c (λ (e : r ≡ c). absurd (omega arith)))
+
+  pub on_diagonal : d ≤ r → r ≡ c → 1 ≡ system_entry is ks d r c
+  unfolding system_entry
+  on_diagonal h e = simp (le-ltb r d h, eq-eqb r c e)
+
+  pub off_diagonal : d ≤ r → (r ≡ c → ⊥) → 0 ≡ system_entry is ks d r c
+  unfolding system_entry
+  off_diagonal h e = simp (le-ltb r d h, ne_eqb r c e)
 
 pub cofactor_made : (m : List (List ℕ)) (r c : ℕ) {i k j l x y : ℕ} → i ≡ lo r → k ≡ hi r → j ≡ lo c → l ≡ hi c
     → x ≡ mul (ent m i j) (ent m k l) → y ≡ mul (ent m i l) (ent m k j) → bit_xor x y ≡ cof (ent m) r c
