@@ -8,4 +8,5 @@ pub mod Closing
 pub mod Matrix
 pub mod Steps
 pub mod Made
+pub mod UnitRows
 pub mod Own

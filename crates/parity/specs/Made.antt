@@ -105,12 +105,12 @@ module _ (n k : ℕ) (miss : ℕ → Bool) (s : Solvable n k miss) where
         term : (r : ℕ) → r < 3 → mul (get_or (three_of (weight_of (get_or m c []) d)) r 0) (coef (get_or is r 0) j) ≡ mul (weight n k miss c r) (coef (get_or (there n k miss) r 0) j)
         term r h = ap₂ mul (weight-at c hc r h) (ap (λ (z : ℕ). coef z j) (held_at hi r h))
 
-    lost-coef : (c : ℕ) → c < 3 → (j : ℕ) → j < n → lost_coef m is d miss c j ≡ pick (ltb c (length (lost n miss))) (data_row n k miss c j) 0
+    pub lost-coef : (c : ℕ) → c < 3 → (j : ℕ) → j < n → lost_coef m is d miss c j ≡ pick (ltb c (length (lost n miss))) (data_row n k miss c j) 0
     unfolding lost_coef
     lost-coef c hc j hj = ap₂ (λ (z v : ℕ). pick (ltb c z) v 0) hk.count_is (slot-coef c hc j hj)
 
     module _ (lines : List (List ℕ)) (el : (c : ℕ) → c < 3 → (j : ℕ) → j < n → ent lines c j ≡ lost_coef m is d miss c j) where
-      parity_coef_lem : (i j : ℕ) → j < n → parity_coef ks (three_of (λ r. ent lines r j)) (miss j) i j ≡ parity_row n k miss i j
+      pub parity_coef_lem : (i j : ℕ) → j < n → parity_coef ks (three_of (λ r. ent lines r j)) (miss j) i j ≡ parity_row n k miss i j
       unfolding parity_coef parity_row
       parity_coef_lem i j hj = ap (pick (miss j) 0 (coef i j) ⊕◌) (ap₂ ◌⊕◌ (term 0 (lit< tt)) (ap₂ ◌⊕◌ (term 1 (lit< tt)) (term 2 (lit< tt))))
         where

@@ -46,6 +46,11 @@ lost_coef m is d miss c j = pick (ltb c d) (slot_coef (three_of (weight_of (get_
 unfoldable pub parity_coef : List ℕ → List ℕ → Bool → ℕ → ℕ → ℕ
 parity_coef ks col missing i j = pick missing 0 (coef i j) ⊕ sum3 (λ r. mul (coef i (get_or ks r 0)) (get_or col r 0))
 
+-- the coefficient of slot j in the missing unit number q, of `total`: a lost data unit, or parity unit i
+unfoldable pub unit_coef : List ℕ → ℕ → List (List ℕ) → ℕ → Bool → ℕ → ℕ → ℕ → ℕ
+unit_coef ks d lines total missing q i j =
+    pick (ltb q d) (ent lines q j) (pick (ltb q total) (parity_coef ks (three_of (λ r. ent lines r j)) missing i j) 0)
+
 -- row q is that of the missing unit number q
 abbrev pub RowsFor : ℕ → ℕ → (ℕ → Bool) → List (List ℕ) → Type 0
 RowsFor n k miss rows = (q : ℕ) → q < length (those miss (n + k)) → (j : ℕ) → j < n → ent rows q j ≡ row_of n k miss (get_or (those miss (n + k)) q 0) j

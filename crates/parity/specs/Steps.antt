@@ -1,5 +1,5 @@
 -- What the functions on small systems show, one lemma for each return or turn.
-use Rattle.std.specs.Prelude.{◌≡◌, Bool, true, false, List, [], ◌∷◌, ◌++◌, ℕ, ◌+◌, ◌<◌, ◌≤◌, length, get_or, set}
+use Rattle.std.specs.Prelude.{◌≡◌, Bool, true, false, not, List, [], ◌∷◌, ◌++◌, ℕ, ◌+◌, ◌<◌, ◌≤◌, length, get_or, set}
 use Rattle.std.proofs.Math.Path.{refl, ap, subst⁻¹}
 use Rattle.std.proofs.Common.{sym, ap₂, ◌∙◌, not-suc-le-zero, le_of_suc-le-suc, add-one, arith, lit<, length-append}
 use Rattle.std.specs.Int.Bits.{bit_xor}
@@ -44,6 +44,14 @@ pub parity_by_rows : (ks own across : List ℕ) (lines : List (List ℕ)) (missi
 unfolding parity_coef
 parity_by_rows ks own across lines missing i j eo ea =
     ap₂ ◌⊕◌ (ap (pick missing 0) eo) (ap (λ (l : List ℕ). dot_of l (three_of (λ r. ent lines r j))) ea)
+
+pub parity_coef_made : (missing : Bool) (own : ℕ) {k d x : ℕ} → k ≡ pick (not missing) own 0 → d ≡ x → bit_xor k d ≡ pick missing 0 own ⊕ x
+unfolding ◌⊕◌
+parity_coef_made missing own ek ed = ap₂ bit_xor (ek ∙ turned missing) ed
+  where
+    turned : (t : Bool) → pick (not t) own 0 ≡ pick t 0 own
+    turned true = refl
+    turned false = refl
 
 module _ (missing : Bool) (own : ℕ) {x y : ℕ} (e : x ≡ y) where
   pub parity_coef_missing : missing ≡ true → x ≡ pick missing 0 own ⊕ y
