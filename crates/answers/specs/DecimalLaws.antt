@@ -24,6 +24,29 @@ pub next_tenth : (n i : ℕ) {rest : ℕ} → rest ≡ tenths i n → rest / 10 
 unfolding tenths
 next_tenth n i e = ap (λ (x : ℕ). x / 10) e ∙ ap (λ (k : ℕ). tenths k n) (let q : suc i ≡ i + 1 = omega arith in q)
 
+-- before turn i more than one digit was left each time
+abbrev pub Longer : ℕ → ℕ → Type 0
+Longer n i = (k : ℕ) → k < i → 10 ≤ tenths k n
+
+pub longer_none : (n : ℕ) → Longer n 0
+longer_none n k h = absurd (omega arith)
+
+pub longer_next : (n i : ℕ) {rest : ℕ} → rest ≡ tenths i n → 10 ≤ rest → Longer n i → Longer n (i + 1)
+longer_next n i e h l k b =
+    equal_or_not k i (λ (q : k ≡ i). subst (λ (x : ℕ). 10 ≤ x) (e ∙ ap (λ (j : ℕ). tenths j n) (sym q)) h) (λ (q : k ≡ i → ⊥). l k (omega arith))
+
+pub places-at : (n i : ℕ) {rest : ℕ} → i < 19 → rest ≡ tenths i n → rest < 10 → Longer n i → i + 1 ≡ places n
+unfolding places
+places-at n i h e k l =
+    let one = lowest-at (is_one n) 19 i h (ap (λ (x : ℕ). ltb x 10) (sym e) ∙ lt-ltb _ 10 k) (λ j b. le-ltb (tenths j n) 10 (l j b)) in
+    omega (arith, one)
+
+pub places-all : (n : ℕ) → Longer n 19 → 20 ≡ places n
+unfolding places
+places-all n l =
+    let none = lowest-none (is_one n) 19 (any_false (is_one n) 19 (λ j b. le-ltb (tenths j n) 10 (l j b))) in
+    omega (arith, none)
+
 -- how many tenths are left after i divisions
 tenths_below : (n i m : ℕ) → n < m * 10 ^ i → tenths i n < m
 unfolding tenths

@@ -8,6 +8,7 @@ pub mod DigitLaws
 pub mod LineLaws
 pub mod RunLaws
 pub mod NumberLaws
+pub mod ByPick
 pub mod DigitsLaws
 pub mod Tell
 pub mod TellLaws

@@ -75,6 +75,16 @@ module _ (text : List ℕ) (from n i : ℕ) (h : i < length (take n (drop from t
 -- ---- the ten characters before the bytes
 
 module _ (text : List ℕ) (a target frame : ℕ) where
+  -- the test of the ten one by one
+
+  pub heads_yes : ((k : ℕ) → k < 10 → at text (a + k) ≡ head_of target frame k) → true ≡ head_right text a target frame
+  heads_yes h = sym (all_true (λ j. eqb (at text (a + j)) (head_of target frame j)) 10 (λ k b. eq-eqb _ _ (h k b)))
+
+  pub heads_no : (k : ℕ) → k < 10 → (at text (a + k) ≡ head_of target frame k → ⊥) → false ≡ head_right text a target frame
+  heads_no k h f =
+      sym (not-both_ways (head_right text a target frame)
+      (λ (t : head_right text a target frame ≡ true). f (eqb-true _ _ (all-at (λ j. eqb (at text (a + j)) (head_of target frame j)) 10 t k h))))
+
   head_stands : take 10 (drop a text) ≡ tabulate 10 (head_of target frame) → true ≡ head_right text a target frame
   head_stands e =
       sym (all_true (λ j. eqb (at text (a + j)) (head_of target frame j)) 10
@@ -151,7 +161,7 @@ unfolding all
 digits_none text from = refl
 
 module _ (text : List ℕ) (from o : ℕ) where
-  both_more : digits_right text from (o + 1)
+  pub both_more : digits_right text from (o + 1)
       ≡ both (is_digit (at text (from + 2 * o + 1))) (both (is_digit (at text (from + 2 * o))) (digits_right text from o))
   unfolding all
   both_more =

@@ -1,18 +1,18 @@
 -- What each turn of the code's loops adds: to where a line ends, to whether it is whole, and to what is kept of it.
-use Rattle.std.specs.Prelude.{◌≡◌, refl, Bool, true, false, ◌||◌, ℕ, zero, suc, min, ◌+◌, ◌-◌, ◌<◌, ◌≤◌, eqb, take, drop}
-use Rattle.std.proofs.Common.{sym, ◌∙◌, drop_of_length-le, length-take, length-drop, length-append, drop-cons, length-take-le, get_or-take, get_or-drop, take_all, take-take, eq-eqb, ne_eqb}
+use Rattle.std.specs.Prelude.{◌≡◌, refl, Bool, true, false, ◌||◌, ℕ, zero, suc, min, ◌+◌, ◌-◌, ◌<◌, ◌≤◌, eqb, ltb, set, take, drop}
+use Rattle.std.proofs.Common.{sym, ◌∙◌, drop_of_length-le, length-take, length-drop, length-append, drop-cons, length-take-le, get_or-take, get_or-drop, take_all, take-take, eq-eqb, ne_eqb, lt-ltb, le-ltb}
 use Rattle.std.proofs.Math.Path.{ap}
 use mathlib.Core.List.{List, ◌++◌}
 use native.Mathlib.Omega.{arith}
 use Rattle.std.proofs.Math.ListN.{length, get_or-append}
-use Rattle.std.proofs.Math.Seq.{take-append-add}
+use Rattle.std.proofs.Math.Seq.{take-append-add, paste, paste-suc}
 use Rattle.std.proofs.lemmas.Bool.{eqb-false}
 use Rattle.std.proofs.Math.Nat.{min-eq_left, min-eq_right}
 use Rattle.std.proofs.Common.{rules, drop-drop}
 use Rattle.std.proofs.lemmas.List.{places, drop_at}
 use Rattle.std.proofs.lemmas.Slice.{take-put_mid}
 use borrow.Rule.Slice.PartMut.{put_mid}
-use Rattle.lists.specs.Pick.{pick, below_or_not}
+use Rattle.lists.specs.Pick.{pick, pick_true, pick-false, below_or_not}
 use Rattle.lists.specs.Search.{any, any_none}
 use Rattle.lists.specs.Tabulate.{at}
 use Rattle.line_cursor.specs.Lines.{first_line, whole_of, line_end, NoNewline, newline_within, kept_of}
@@ -57,7 +57,7 @@ module _ (piece : List ℕ) where
       let none : a ≡ a + 0 = omega arith in
       none ∙ ap (λ (l : List ℕ). a + length (first_line l)) (sym (drop_of_length-le piece h))
 
-  end-run : (a n : ℕ) → a + n ≤ length piece → ((i : ℕ) → i < n → at piece (a + i) ≡ 10 → ⊥) → line_end piece a ≡ line_end piece (a + n)
+  pub end-run : (a n : ℕ) → a + n ≤ length piece → ((i : ℕ) → i < n → at piece (a + i) ≡ 10 → ⊥) → line_end piece a ≡ line_end piece (a + n)
   end-run a zero h f = ap (line_end piece) (let q : a ≡ a + 0 = omega arith in q)
   end-run a (suc n) h f =
       end-run a n (omega (arith, h)) (λ i b. f i (omega (arith, b))) ∙ end-other (a + n) (omega (arith, h)) (f n (omega arith))
@@ -116,6 +116,15 @@ module _ (piece : List ℕ) (from end : ℕ) where
 
 -- ---- what is kept
 
+-- one byte more
+pub keep_turn : (piece line : List ℕ) (from held i : ℕ) {l : List ℕ} → held + i < length line → from + i < length piece → l ≡ paste line held (drop from piece) i
+    → set l (held + i) (at piece (from + i)) ≡ paste line held (drop from piece) (i + 1)
+keep_turn piece line from held i {l} h k e =
+    let rest = length-drop from piece in
+    let next : suc i ≡ i + 1 = omega arith in
+    (λ j. set (e j) (held + i) (sym (get_or-drop from piece i 0) j)) ∙ paste-suc line held (drop from piece) i 0 h (omega (arith, rest, k))
+    ∙ ap (paste line held (drop from piece)) next
+
 -- what is appended where there is room for n
 append_room : (begins s : List ℕ) (m n : ℕ) → length begins + n ≡ 8301 → kept_of (begins ++ take m s) ≡ begins ++ take (min m n) s
 append_room begins s m n e =
@@ -126,6 +135,12 @@ append_room begins s m n e =
     let short = length-take m s in
     take_all n (take m s) (omega (arith, h, short)) ∙ ap (λ (k : ℕ). take k s) (sym (min-eq_left (omega arith))))
     (λ (h : n ≤ m). take-take n m s h ∙ ap (λ (k : ℕ). take k s) (sym (min-eq_right h))))
+
+-- the smaller of two is at most either
+pub smaller_le : (a b : ℕ) {c : ℕ} → c ≡ pick (ltb a b) a b → (c ≤ a) × (c ≤ b)
+smaller_le a b {c} e =
+    below_or_not a b (λ (h : a < b). let q = e ∙ pick_true (ltb a b) a b (lt-ltb a b h) in (omega (arith, q), omega (arith, q, h)))
+    (λ (h : b ≤ a). let q = e ∙ pick-false (ltb a b) a b (le-ltb a b h) in (omega (arith, q, h), omega (arith, q)))
 
 -- all that was to be kept
 module _ (piece line : List ℕ) (from end held : ℕ) (k : ℕ) {count : ℕ} {part : List ℕ} (h : (from ≤ end) × (end ≤ length piece) × (length line ≡ 8301) × (held ≤ 8301))
