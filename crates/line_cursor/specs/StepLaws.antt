@@ -1,6 +1,6 @@
 -- What each turn of the code's loops adds: to where a line ends, to whether it is whole, and to what is kept of it.
 use Rattle.std.specs.Prelude.{◌≡◌, refl, Bool, true, false, ◌||◌, ℕ, zero, suc, min, ◌+◌, ◌-◌, ◌<◌, ◌≤◌, eqb, ltb, set, take, drop}
-use Rattle.std.proofs.Common.{sym, ◌∙◌, drop_of_length-le, length-take, length-drop, length-append, drop-cons, length-take-le, get_or-take, get_or-drop, take_all, take-take, eq-eqb, ne_eqb, lt-ltb, le-ltb}
+use Rattle.std.proofs.Common.{sym, ◌∙◌, drop_of_length-le, length-take, length-drop, length-append, drop-cons, length-take-le, get_or-take, get_or-drop, take_all, take-take, eq-eqb, ne_eqb}
 use Rattle.std.proofs.Math.Path.{ap}
 use mathlib.Core.List.{List, ◌++◌}
 use native.Mathlib.Omega.{arith}
@@ -8,7 +8,7 @@ use Rattle.std.proofs.Math.ListN.{length, get_or-append}
 use Rattle.std.proofs.Math.Seq.{take-append-add, paste, paste-suc}
 use Rattle.std.proofs.lemmas.Bool.{eqb-false}
 use Rattle.std.proofs.Math.Nat.{min-eq_left, min-eq_right}
-use Rattle.std.proofs.Common.{rules, drop-drop}
+use Rattle.std.proofs.Common.{rules, drop-drop, lt-ltb, le-ltb}
 use Rattle.std.proofs.lemmas.List.{places, drop_at}
 use Rattle.std.proofs.lemmas.Slice.{take-put_mid}
 use borrow.Rule.Slice.PartMut.{put_mid}
