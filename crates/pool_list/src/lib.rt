@@ -2,7 +2,7 @@
 // store." A range is a pair, its offset and its length; the tests are made once for the whole list.
 #![tactic(auto)]
 
-ghost use Rattle.std.specs.Prelude.{◌≡◌, ℕ, ◌≤◌, ◌<◌, length, Err, IfSome, IsNone};
+ghost use Rattle.std.specs.Prelude.{◌≡◌, ℕ, ◌≤◌, ◌<◌, length, Err, IfErr, IfSome, IsNone};
 ghost use Rattle.lists.specs.Count.{sum};
 ghost use Rattle.lists.specs.First.{first_failing};
 ghost use Rattle.checks.specs.Tests.{inside_of};
@@ -93,7 +93,8 @@ fn write_ranges(y: Layout, r: Record, image: &mut [u8], ranges: &[[u64; 2]], byt
     }
 }
 
-// "Take a list of up to 64 ranges and one buffer with their bytes in order."
+// "Take a list of up to 64 ranges and one buffer with their bytes in order." A range that is answered counts from 1, so that 0 is told where there is
+// none and nowhere else.
 pub fn write_list(
     y: Layout,
     r: Record,
@@ -101,7 +102,8 @@ pub fn write_list(
     ranges: &[[u64; 2]],
     bytes: &[u8],
 ) -> Result<(), ListRefusal>
-    ensures { WritesList y r image.old ranges.now bytes.now (told_refusal result) (told_range result) image.new }
+    ensures told { WritesList y r image.old ranges.now bytes.now (told_refusal result) (told_range result) image.new }
+    ensures counted { IfErr result (λ e. IfSome e.range (λ m. 0 < m)) }
 {
     if let Err(refusal) = checks::check_pool(y, r, image.len()) {
         return refused(refusal, None);

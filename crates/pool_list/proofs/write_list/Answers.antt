@@ -35,11 +35,14 @@ asked : (y : Layout) (r : Record) (len : ℕ) (rs : List (List ℕ)) (room total
 asked y r len rs room total s few ins e sums = record { sound = s; few = few; each = ins; exact = sym e ∙ sums }
 
 pub returns-in-Err : goal.returns-in-Err
-returns-in-Err c = rw c.refused.ensures (lists_refused _ _ _ c.args.ranges.now c.args.bytes.now _ c.in-Err.ensures (refused _))
+returns-in-Err c = rw c.refused.ensures (record { told = lists_refused _ _ _ c.args.ranges.now c.args.bytes.now _ c.in-Err.ensures (refused _); counted = tt })
 
 pub returns-then-ranges-gt64 : goal.returns-then-ranges-gt64
 returns-then-ranges-gt64 c = rw c.refused-then-ranges-gt64.ensures (
-    lists_many _ _ _ c.args.ranges.now c.args.bytes.now (repair_asked _ _ _ (sym c.in_default.ensures)) (omega (arith, c.if-ranges-gt64.true))
+    record {
+      told = lists_many _ _ _ c.args.ranges.now c.args.bytes.now (repair_asked _ _ _ (sym c.in_default.ensures)) (omega (arith, c.if-ranges-gt64.true));
+      counted = tt;
+    }
     )
 
 pub numbers_of-capacity-requires : goal.numbers_of-capacity-requires
@@ -47,9 +50,13 @@ numbers_of-capacity-requires c = (repair_asked _ _ _ (sym c.in_default.ensures))
 
 pub returns-in-Some : goal.returns-in-Some
 returns-in-Some c = let found = c.in-Some.ensures.some in rw c.refused-in-Some.ensures (
-    lists_outside _ _ _ c.args.ranges.now c.args.bytes.now (repair_asked _ _ _ (sym c.in_default.ensures)) (omega arith) _
-    (searched c.args.y c.args.ranges.now _ _ c.numbers_of-capacity.ensures.capacity_is found.1)
-    (λ z. omega (arith, found.0, z))
+    record {
+      told =
+          lists_outside _ _ _ c.args.ranges.now c.args.bytes.now (repair_asked _ _ _ (sym c.in_default.ensures)) (omega arith) _
+          (searched c.args.y c.args.ranges.now _ _ c.numbers_of-capacity.ensures.capacity_is found.1)
+          (λ z. omega (arith, found.0, z));
+      counted = found.0;
+    }
     )
 
 pub sum_of_lengths-requires : goal.sum_of_lengths-requires
@@ -59,9 +66,13 @@ sum_of_lengths-requires c = let n = c.numbers_of-capacity.ensures in
 
 pub returns-then-sum_of_lengths-bytes : goal.returns-then-sum_of_lengths-bytes
 returns-then-sum_of_lengths-bytes c = rw c.refused-then-sum_of_lengths-bytes.ensures (
-    lists_wrong-sum _ _ _ c.args.ranges.now c.args.bytes.now (repair_asked _ _ _ (sym c.in_default.ensures)) (omega arith)
-    (each c.args.y c.args.ranges.now _ c.numbers_of-capacity.ensures.capacity_is (c.in_default-first_outside.ensures.none refl))
-    (λ (e : length c.args.bytes.now ≡ _). let t = c.sum_of_lengths.ensures in omega (arith, c.if-sum_of_lengths-bytes.true, t, e))
+    record {
+      told =
+          lists_wrong-sum _ _ _ c.args.ranges.now c.args.bytes.now (repair_asked _ _ _ (sym c.in_default.ensures)) (omega arith)
+          (each c.args.y c.args.ranges.now _ c.numbers_of-capacity.ensures.capacity_is (c.in_default-first_outside.ensures.none refl))
+          (λ (e : length c.args.bytes.now ≡ _). let t = c.sum_of_lengths.ensures in omega (arith, c.if-sum_of_lengths-bytes.true, t, e));
+      counted = tt;
+    }
     )
 
 pub write_ranges-requires : goal.write_ranges-requires
@@ -70,8 +81,8 @@ write_ranges-requires c =
     (each c.args.y c.args.ranges.now _ c.numbers_of-capacity.ensures.capacity_is (c.in_default-first_outside.ensures.none refl))
     c.if-sum_of_lengths-bytes.false c.sum_of_lengths.ensures
 
-pub returns : goal.returns
-returns c =
+pub returns-clause-told : goal.returns-clause-told
+returns-clause-told c =
     lists_written _ _ _ _ c.args.bytes.now
     (asked _ _ _ _ _ _ (repair_asked _ _ _ (sym c.in_default.ensures)) (omega arith)
     (each c.args.y c.args.ranges.now _ c.numbers_of-capacity.ensures.capacity_is (c.in_default-first_outside.ensures.none refl))
