@@ -1,3 +1,4 @@
 pub mod Groups
 pub mod Turns
 pub mod Answers
+pub mod Lengths
