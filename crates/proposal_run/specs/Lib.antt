@@ -1,3 +1,4 @@
 pub mod Steps
 pub mod Entry
 pub mod Turns
+pub mod Places
