@@ -3,3 +3,4 @@ pub mod Windows
 pub mod Marks
 pub mod Entry
 pub mod Steps
+pub mod Places
