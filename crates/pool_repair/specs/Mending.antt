@@ -37,6 +37,10 @@ mended_at y R img g c o = content_byte y R img g o c
 abbrev pub GroupMended : Layout → Record → ℕ → List ℕ → List ℕ → Type 0
 GroupMended y R g img img' = Lays (contents y) y.u (start_of y R R.k g) (mends_at y R g) (mended_at y R img g) img img'
 
+-- the same by its other name
+abbrev pub Mended : Layout → Record → ℕ → List ℕ → List ℕ → Type 0
+Mended y R g img img' = GroupMended y R g img img'
+
 -- byte x once the groups below g are repaired
 module _ (y : Layout) (v : Valid y) (R : Record) (good : Good y R) where
   abbrev pub mended_to : List ℕ → ℕ → ℕ → ℕ
