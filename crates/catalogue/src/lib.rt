@@ -45,21 +45,28 @@ fn scan(s: &[Entry], n: usize, key: Key) -> Look
     look_at(n, s.len(), sound, key, at, peek(s, at))
 }
 
-// The records of a run move by one place, and another one stands in the place that is left: every change of a catalogue.
+// The records of a run move by one place, and another one stands in the place that is left: every change of a catalogue. One record at a time is
+// carried to the next place, as the library's turns of a slice need `memmove`, which the archive for C is to do without.
 fn roll(s: &mut [Entry], plan: Plan)
     requires { IsInside plan (length s.old) }
     ensures { s.new ≡ rolled plan.way plan.from plan.end plan.first s.old }
 {
     let run = &mut s[plan.from..plan.end];
+    let mut carried = plan.first;
     match plan.way {
         Way::Up => {
-            run.rotate_right(1);
-            run[0] = plan.first;
+            for slot in run.iter_mut() {
+                let pushed = *slot;
+                *slot = carried;
+                carried = pushed;
+            }
         }
         Way::Down => {
-            let last = run.len() - 1;
-            run.rotate_left(1);
-            run[last] = plan.first;
+            for i in (0..run.len()).rev() {
+                let pushed = run[i];
+                run[i] = carried;
+                carried = pushed;
+            }
         }
     }
 }

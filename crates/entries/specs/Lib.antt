@@ -12,6 +12,7 @@ pub mod Listed
 pub mod WideOrder
 pub mod Orders
 pub mod Splits
+pub mod Turned
 pub mod Rolls
 pub mod Maps
 pub mod Searches
