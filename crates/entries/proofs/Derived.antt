@@ -1,5 +1,6 @@
--- The derived comparisons of wide numbers and keys are those of the definitions: each field in turn, the first that differs decides.
-use Rattle.std.specs.Prelude.{◌≡◌, refl, ℕ, ◌<◌, ◌≤◌, Bool, true, false, ltb, eqb, ◌&&◌, not, Option, Some, None}
+-- The comparisons of wide numbers and keys, and the derived ones too, are those of the definitions: each field in turn, the first that differs
+-- decides.
+use Rattle.std.specs.Prelude.{◌≡◌, refl, ℕ, ◌<◌, ◌≤◌, Bool, true, false, ltb, eqb, ◌&&◌, ◌||◌, not, Option, Some, None}
 use Rattle.std.proofs.Common.{ap, ◌∙◌, arith, lt-ltb, le-ltb, eq-eqb, ne_eqb}
 use Rattle.std.specs.Ordering.{partial_ordering_then, nat_cmp, is_some_and, is_lt}
 use Rattle.std.specs.declared.cmp.Ordering.{Ordering}
@@ -56,16 +57,31 @@ pub key_equality : (a b : Key) → eqb a.device b.device && (eqb a.file.first b.
 unfolding key_eq
 key_equality a b = ap (λ (t : Bool). eqb a.device b.device && t) (wide_equality a.file b.file) ∙ both_are (eqb a.device b.device) (wide_eq a.file b.file)
 
--- what `<` of two keys answers, as a call of a closure gives it
-pub key_order_of : {t : Bool} (a b : Key)
-    → t ≡ is_some_and is_lt (partial_ordering_then (Some (nat_cmp a.device b.device))
-    (partial_ordering_then (Some (nat_cmp a.file.first b.file.first)) (Some (nat_cmp a.file.second b.file.second)))) → t ≡ key_lt a b
-key_order_of a b e = e ∙ key_order a b
+-- ---- a number, and then what is compared after it, with no test between them
+
+no_test : (a b : ℕ) (t : Bool) → ltb a b || (eqb a b && t) ≡ pick (ltb a b) true (pick (ltb b a) false t)
+no_test a b t = below_or_not a b less more
+  where
+    less : a < b → ltb a b || (eqb a b && t) ≡ pick (ltb a b) true (pick (ltb b a) false t)
+    less l = simp (lt-ltb a b l)
+
+    more : b ≤ a → ltb a b || (eqb a b && t) ≡ pick (ltb a b) true (pick (ltb b a) false t)
+    more m =
+        below_or_not b a (λ (l : b < a). simp (le-ltb a b m, lt-ltb b a l, ne_eqb a b (λ q. omega (arith, q))))
+        (λ (l : a ≤ b). simp (le-ltb a b m, le-ltb b a l, eq-eqb a b (omega arith)))
+
+pub wide_below : (a b : Wide) → ltb a.first b.first || (eqb a.first b.first && ltb a.second b.second) ≡ wide_lt a b
+unfolding wide_lt
+wide_below a b = no_test a.first b.first (ltb a.second b.second)
+
+pub key_below : (a b : Key) {t : Bool} → t ≡ wide_lt a.file b.file → ltb a.device b.device || (eqb a.device b.device && t) ≡ key_lt a b
+unfolding key_lt
+key_below a b {t} e = no_test a.device b.device t ∙ ap (λ (u : Bool). pick (ltb a.device b.device) true (pick (ltb b.device a.device) false u)) e
 
 -- whether the cob that was found is c, as `is_some_and` answers it
 pub found_equality : (o : Option Wide) (c : Wide) {t : Bool} {P : Wide → Type 0} → MatchOption o (t ≡ false) P
-    → ((w : Wide) → P w → t ≡ (eqb w.first c.first && eqb w.second c.second)) → t ≡ has_cob o c
-found_equality (Some w) c e h = h w e ∙ wide_equality w c
+    → ((w : Wide) → P w → t ≡ wide_eq w c) → t ≡ has_cob o c
+found_equality (Some w) c e h = h w e
 found_equality None c e h = e
 
 -- ---- what the opposite of a test says of it

@@ -54,20 +54,19 @@ pub fn blank_entry() -> Entry
     Entry::default()
 }
 
-// What the derived comparisons are by the definitions: the code compares by `<` and `==`.
-
-// The order of two wide numbers is that of the pairs: by the first word and then the second.
+// The order of two wide numbers: by the first word and then the second. No test decides what is compared next, here and in `below`: the test of
+// the order makes a call for each record, and would go another way at each.
 pub fn below_wide(a: Wide, b: Wide) -> bool
     ensures { result ≡ wide_lt a b }
 {
-    a < b
+    (a.first < b.first) | ((a.first == b.first) & (a.second < b.second))
 }
 
-// That of two keys: by device and then file.
+// The order of the keys: by device and then file. No other function compares them so.
 pub fn below(a: Key, b: Key) -> bool
     ensures { result ≡ key_lt a b }
 {
-    a < b
+    (a.device < b.device) | ((a.device == b.device) & below_wide(a.file, b.file))
 }
 
 pub fn same(a: Key, b: Key) -> bool
@@ -76,10 +75,11 @@ pub fn same(a: Key, b: Key) -> bool
     a == b
 }
 
+// No other function looks into a cob number.
 pub fn same_cob(a: Wide, b: Wide) -> bool
     ensures { result ≡ wide_eq a b }
 {
-    a == b
+    (a.first == b.first) & (a.second == b.second)
 }
 
 // ---- the test of the order, and the search among keys that rise
@@ -88,7 +88,7 @@ pub fn same_cob(a: Wide, b: Wide) -> bool
 pub fn is_rising(s: &[Entry]) -> bool
     ensures { result ≡ rising s.now }
 {
-    s.is_sorted_by(|a, b| key_of(*a) < key_of(*b))
+    s.is_sorted_by(|a, b| below(key_of(*a), key_of(*b)))
 }
 
 // How many records stand below a key: the place of its record.
@@ -96,7 +96,7 @@ pub fn place(s: &[Entry], key: Key) -> usize
     requires { rising s.now ≡ true }
     ensures { result ≡ past_count key false s.now }
 {
-    s.partition_point(|r| key_of(*r) < key)
+    s.partition_point(|r| below(key_of(*r), key))
 }
 
 // How many stand on the device of a key or on one before it: the place where the device ends.
@@ -136,7 +136,7 @@ pub fn look_at(n: usize, len: usize, sound: bool, key: Key, at: usize, there: En
     ensures { result ≡ look_of n len sound key at there }
 {
     let upto = trusted(n, sound);
-    let held = at < upto && key_of(there) == key;
+    let held = at < upto && same(key_of(there), key);
     let found = if held { Some(there.cob) } else { None };
     Look {
         n,
@@ -295,7 +295,7 @@ pub fn deletion(x: Look, r: Entry) -> Result<Plan, Refusal>
     if !x.sound {
         return Err(Refusal::BadCatalogue);
     }
-    if !x.found.is_some_and(|cob| cob == r.cob) {
+    if !x.found.is_some_and(|cob| same_cob(cob, r.cob)) {
         return Err(Refusal::NotThere);
     }
     let freed = blank_entry();

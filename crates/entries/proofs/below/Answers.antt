@@ -1,7 +1,6 @@
--- `entries::below` meets its contract: the derived comparison is that of the definition.
-use Rattle.std.proofs.Common.{◌∙◌}
-use Rattle.entries.proofs.Derived.{key_order}
+-- `entries::below` meets its contract: the device, and then the file.
+use Rattle.entries.proofs.Derived.{key_below}
 use Rattle.entries.proofs.below.Goals as goal
 
 pub returns : goal.returns
-returns c = c.lt.ensures ∙ key_order c.args.a c.args.b
+returns c = key_below c.args.a c.args.b c.below_wide.ensures

@@ -8,7 +8,6 @@ use Rattle.entries.specs.declared.Key.{Key}
 use Rattle.entries.specs.declared.Look.{Look}
 use Rattle.entries.specs.Key.{key_of, key_eq}
 use Rattle.entries.specs.Look.{trusted_of, look_of}
-use Rattle.entries.proofs.Derived.{key_equality}
 use Rattle.entries.proofs.look_at.Goals as goal
 use Rattle.entries.proofs.look_at.Goals.{then-at-upto, else-at-upto}
 
@@ -29,7 +28,7 @@ returns-then-held c =
     seen c.args.n c.args.len c.args.sound c.args.key c.args.at c.args.there c.trusted-upto.ensures
     (elim c.if-at-upto.branch [
       | then-at-upto w ↦
-          w.held-is ∙ w.eq-held.ensures ∙ key_equality w.key_of.result c.args.key ∙ ap (λ (k : Key). key_eq k c.args.key) w.key_of.ensures
+          w.held-is ∙ w.same-held.ensures ∙ ap (λ (k : Key). key_eq k c.args.key) w.key_of.ensures
           ∙ sym (ap (λ (t : Bool). both t (key_eq (key_of c.args.there) c.args.key)) (lt-ltb c.args.at c.trusted-upto.result w.if-at-upto.true))
       | else-at-upto w ↦
           w.held-is ∙ le-ltb c.args.at c.trusted-upto.result w.if-at-upto.false
@@ -42,7 +41,7 @@ returns-else-held c =
     seen c.args.n c.args.len c.args.sound c.args.key c.args.at c.args.there c.trusted-upto.ensures
     (elim c.if-at-upto.branch [
       | then-at-upto w ↦
-          w.held-is ∙ w.eq-held.ensures ∙ key_equality w.key_of.result c.args.key ∙ ap (λ (k : Key). key_eq k c.args.key) w.key_of.ensures
+          w.held-is ∙ w.same-held.ensures ∙ ap (λ (k : Key). key_eq k c.args.key) w.key_of.ensures
           ∙ sym (ap (λ (t : Bool). both t (key_eq (key_of c.args.there) c.args.key)) (lt-ltb c.args.at c.trusted-upto.result w.if-at-upto.true))
       | else-at-upto w ↦
           w.held-is ∙ le-ltb c.args.at c.trusted-upto.result w.if-at-upto.false

@@ -1,6 +1,7 @@
 -- No loop: the search is the library's.
 -- One by hand looks between two places,
 -- and keeps
--- that these are in order, within the records;
+-- that these are in order, within the records,
+-- with the place that is sought between them;
 -- it ends since there are fewer places between them
 -- after each turn.

@@ -1,7 +1,6 @@
--- `entries::same_cob` meets its contract: the derived comparison is that of the definition.
-use Rattle.std.proofs.Common.{◌∙◌}
+-- `entries::same_cob` meets its contract: the two words.
 use Rattle.entries.proofs.Derived.{wide_equality}
 use Rattle.entries.proofs.same_cob.Goals as goal
 
 pub returns : goal.returns
-returns c = c.eq.ensures ∙ wide_equality c.args.a c.args.b
+returns c = wide_equality c.args.a c.args.b
