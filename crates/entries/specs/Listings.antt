@@ -117,6 +117,10 @@ abbrev pub AnyWithin : Result Show Refusal → ℕ → ℕ → Type 0
 AnyWithin (Ok w) len room = IsWithin w len room
 AnyWithin (Err e) len room = ⊤
 
+pub get_d_end : (ys : List Entry) → get_or ys (length ys) blank ≡ blank
+get_d_end [] = refl
+get_d_end (y ∷ ys) = get_d_end ys
+
 get_d_over : (ws : List Wide) (i : ℕ) → length ws ≤ i → get_or ws i nought ≡ nought
 get_d_over [] i l = refl
 get_d_over (w ∷ ws) zero l = absurd (omega (arith, l))
