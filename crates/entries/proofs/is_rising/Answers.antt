@@ -8,5 +8,5 @@ use Rattle.entries.proofs.is_rising.Goals as goal
 
 pub returns : goal.returns
 returns c =
-    sorted_rises c.args.s.now c.is_sorted_by.result
+    sorted_rises _ c.is_sorted_by.result
     (c.is_sorted_by.ensures.cases (λ (x y : Entry). key_lt (key_of x) (key_of y)) (always_returns_same _ _ _ (λ a r q k. search rules)))
