@@ -57,9 +57,11 @@ pub fn lose(rt: &impl Print, r: Record, image: &[u8], target: u64) -> io::Result
     Ok(failed.unwrap_or(r))
 }
 
-// What stood on drive 2 is gone: each drive has 32 bytes.
-pub fn wipe_drive_2(image: &mut [u8; 160]) {
-    image[64..96].fill(255);
+// What stood on drive 2 is gone: each drive has 32 bytes. An image that does not hold it stays as it is.
+pub fn wipe_drive_2(image: &mut [u8]) {
+    if 96 <= image.len() {
+        image[64..96].fill(255);
+    }
 }
 
 pub fn mend(rt: &impl Print, r: Record, image: &mut [u8]) -> io::Result<Record> {
