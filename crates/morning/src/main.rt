@@ -54,7 +54,8 @@ fn before_the_rush(rt: &impl Print, r: Record, image: &mut [u8]) -> io::Result<(
     store(rt, r, image, 0, &photograph::<24>(0))?;
     store(rt, r, image, 24, &photograph::<20>(7))?;
     drives(rt, "before the rush", image)?;
-    inspect(rt, r, image)
+    inspect(rt, r, image);
+    Ok(())
 }
 
 fn take_back(rt: &impl Print, r: Record, image: &mut [u8], target: u64) -> io::Result<Record> {
@@ -65,18 +66,18 @@ fn take_back(rt: &impl Print, r: Record, image: &mut [u8], target: u64) -> io::R
 
 // The same drive again, and one more than the row can lose; and too early to take one back, or one that is alive.
 fn lose_more(rt: &impl Print, r: Record, image: &mut [u8]) -> io::Result<Record> {
-    let again = lose(rt, r, image, 2)?;
-    let dud = lose(rt, again, image, 4)?;
+    let again = lose(rt, r, image, 2);
+    let dud = lose(rt, again, image, 4);
     let early = take_back(rt, dud, image, 2)?;
     let alive = take_back(rt, early, image, 4)?;
-    inspect(rt, alive, image)?;
+    inspect(rt, alive, image);
     Ok(alive)
 }
 
 fn in_the_rush(rt: &impl Print, r: Record, image: &mut [u8; 160]) -> io::Result<Record> {
-    let failed = lose(rt, r, image, 2)?;
+    let failed = lose(rt, r, image, 2);
     wipe_drive_2(image);
-    inspect(rt, failed, image)?;
+    inspect(rt, failed, image);
     show(rt, failed, image, 0, &mut [0; 24])?;
     store(rt, failed, image, 40, &photograph::<30>(13))?;
     lose_more(rt, failed, image)
@@ -85,16 +86,17 @@ fn in_the_rush(rt: &impl Print, r: Record, image: &mut [u8; 160]) -> io::Result<
 // The record comes back from its keeper with another count.
 fn misread(rt: &impl Print, r: Record, image: &[u8], waiting: u64) -> io::Result<()> {
     println!(rt; "The record is read as one with {waiting} missing:")?;
-    inspect(rt, Record { waiting, ..r }, image)
+    inspect(rt, Record { waiting, ..r }, image);
+    Ok(())
 }
 
 fn after_the_rush(rt: &impl Print, r: Record, image: &mut [u8]) -> io::Result<Record> {
-    let mended = mend(rt, r, image)?;
-    inspect(rt, mended, image)?;
+    let mended = mend(rt, r, image);
+    inspect(rt, mended, image);
     drives(rt, "after the repair", image)?;
     show(rt, mended, image, 0, &mut [0; 70])?;
     show(rt, mended, image, 70, &mut [42; 12])?;
-    let again = mend(rt, mended, image)?;
+    let again = mend(rt, mended, image);
     for waiting in [1, 15, 16] {
         misread(rt, again, image, waiting)?;
     }
@@ -117,7 +119,7 @@ fn make_whole(rt: &impl Print, r: Record, image: &mut [u8; 160]) -> io::Result<R
 
 fn in_the_afternoon(rt: &impl Print, r: Record, image: &mut [u8; 160]) -> io::Result<Record> {
     let whole = make_whole(rt, r, image)?;
-    inspect(rt, whole, image)?;
+    inspect(rt, whole, image);
     drives(rt, "after the swap", image)?;
     show(rt, whole, image, 0, &mut [0; 70])?;
     take_back(rt, whole, image, 2)
@@ -125,9 +127,9 @@ fn in_the_afternoon(rt: &impl Print, r: Record, image: &mut [u8; 160]) -> io::Re
 
 // Another drive dies.
 fn lose_another(rt: &impl Print, r: Record, image: &mut [u8; 160]) -> io::Result<Record> {
-    let failed = lose(rt, r, image, 4)?;
+    let failed = lose(rt, r, image, 4);
     image[128..160].fill(255);
-    inspect(rt, failed, image)?;
+    inspect(rt, failed, image);
     show(rt, failed, image, 0, &mut [0; 70])?;
     store(rt, failed, image, 70, &photograph::<10>(3))?;
     Ok(failed)
@@ -135,10 +137,10 @@ fn lose_another(rt: &impl Print, r: Record, image: &mut [u8; 160]) -> io::Result
 
 // It is swapped in its turn.
 fn in_the_evening(rt: &impl Print, r: Record, image: &mut [u8; 160]) -> io::Result<()> {
-    let mended = mend(rt, r, image)?;
+    let mended = mend(rt, r, image);
     put_in(rt, 4, &mut image[128..160])?;
     let whole = take_back(rt, mended, image, 4)?;
-    inspect(rt, whole, image)?;
+    inspect(rt, whole, image);
     drives(rt, "in the evening", image)?;
     show(rt, whole, image, 0, &mut [0; 80])
 }

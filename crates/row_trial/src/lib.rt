@@ -41,7 +41,7 @@ pub fn no_failures() -> Record {
     record_of(0, 0, 0)
 }
 
-// ---- calls on the row
+// ---- calls on the row: as in `trial`, a write that fails is passed over
 
 pub fn put(r: Record, image: &mut [u8], offset: u64, bytes: &[u8]) -> Outcome {
     Outcome::from(pool_write::write(row(), r, image, offset, bytes))
@@ -51,10 +51,10 @@ pub fn get(r: Record, image: &[u8], offset: u64, out: &mut [u8]) -> Result<(), R
     pool_read::read(row(), r, image, offset, out)
 }
 
-pub fn lose(rt: &impl Print, r: Record, image: &[u8], target: u64) -> io::Result<Record> {
+pub fn lose(rt: &impl Print, r: Record, image: &[u8], target: u64) -> Record {
     let failed = pool_fail::fail(row(), r, image, target);
-    println!(rt; "Drive {target} dies: {}", Outcome::from(failed))?;
-    Ok(failed.unwrap_or(r))
+    let _ = println!(rt; "Drive {target} dies: {}", Outcome::from(failed));
+    failed.unwrap_or(r)
 }
 
 // What stood on drive 2 is gone: each drive has 32 bytes. An image that does not hold it stays as it is.
@@ -64,14 +64,14 @@ pub fn wipe_drive_2(image: &mut [u8]) {
     }
 }
 
-pub fn mend(rt: &impl Print, r: Record, image: &mut [u8]) -> io::Result<Record> {
+pub fn mend(rt: &impl Print, r: Record, image: &mut [u8]) -> Record {
     let repaired = pool_repair::repair(row(), r, image);
     let Mended { count, rec } = repaired.unwrap_or(Mended { count: 0, rec: r });
-    println!(rt;
+    let _ = println!(rt;
         "The row is repaired: {count} units were missing, {}",
         Outcome::from(repaired)
-    )?;
-    Ok(rec)
+    );
+    rec
 }
 
 // ---- the service panel
@@ -90,8 +90,7 @@ impl fmt::Display for Waiting {
     }
 }
 
-// What the panel shows, and what an audit of the count answers.
-pub fn inspect(rt: &impl Print, r: Record, image: &[u8]) -> io::Result<()> {
+fn say_inspection(rt: &impl Print, r: Record, image: &[u8]) -> io::Result<()> {
     let shown = pool_count::panel(row(), r, image);
     print!(rt; "The service panel: ")?;
     if let Ok(counts) = shown {
@@ -104,4 +103,9 @@ pub fn inspect(rt: &impl Print, r: Record, image: &[u8]) -> io::Result<()> {
     println!(rt; "{}", Outcome::from(shown))?;
     let audited = pool_count::audit(row(), r, image);
     println!(rt; "The count is audited: {}", Outcome::from(audited))
+}
+
+// What the panel shows, and what an audit of the count answers.
+pub fn inspect(rt: &impl Print, r: Record, image: &[u8]) {
+    let _ = say_inspection(rt, r, image);
 }
