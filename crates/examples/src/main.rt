@@ -2,7 +2,7 @@
 // edition 2.
 #![tactic(auto)]
 
-use layout::{Cursor, Step};
+use layout::{Cursor, Entries, Measured, Step};
 use numbers::Layout;
 use std::io;
 use tile::Generator;
@@ -20,12 +20,11 @@ fn layout_of(n: u64, k: u64, p: u64, u: u64, edition: u64) -> Layout {
 }
 
 fn show_numbers(rt: &impl Print, y: Layout) -> io::Result<()> {
-    let answer = layout::measure(y);
-    let refusal = lists::answer_number(answer);
-    let m = answer.unwrap_or_default();
+    let answer = Measured::from(layout::measure(y));
+    let m = answer.numbers;
     print!(rt;
-        "N={} K={} P={} U={} T={}: refusal {refusal}, ",
-        y.n, y.k, y.p, y.u, y.t
+        "N={} K={} P={} U={} T={}: refusal {}, ",
+        y.n, y.k, y.p, y.u, y.t, answer.refusal
     )?;
     print!(rt; "W={} B={} L={} C={} ", m.w, m.b, m.l, m.c)?;
     println!(rt;
@@ -54,13 +53,12 @@ fn show_entries(rt: &impl Print, entries: &[u8]) -> io::Result<()> {
 
 fn show_permutation(rt: &impl Print, y: Layout) -> io::Result<()> {
     let count = y.p.min(64) as usize;
+    let forth = Entries::from(layout::tile_permutation(y, 0));
     print!(rt; "P={}: permutation", y.p)?;
-    show_entries(
-        rt,
-        &layout::tile_permutation(y, 0).unwrap_or([0; 64])[..count],
-    )?;
+    show_entries(rt, &forth.entries[..count])?;
+    let back = Entries::from(layout::tile_inverse(y, 0));
     print!(rt; ", inverse")?;
-    show_entries(rt, &layout::tile_inverse(y, 0).unwrap_or([0; 64])[..count])?;
+    show_entries(rt, &back.entries[..count])?;
     println!(rt; "")
 }
 

@@ -5,9 +5,10 @@
 
 ghost use Rattle.std.specs.Prelude.{◌<◌, ◌^◌};
 
+use layout::Measured;
 use numbers::Layout;
 use row_trial::{row, row_of};
-use settings::Unread;
+use settings::{Added, Settings};
 use std::{fmt, io};
 use trial::{Ascii, Outcome};
 
@@ -51,29 +52,37 @@ impl fmt::Display for Shown {
     }
 }
 
-// What a reader answers; of a layout that was read also how long the file is in its row.
+// What a reader answers, as C has it; of a layout that was read also how long the file is in its row. Refused, the layout is to be zeros.
 #[derive(Clone, Copy)]
-struct Read(Result<Layout, Unread>);
+struct Read(Settings);
 
 impl fmt::Display for Read {
     fn fmt<W: fmt::Write>(&self, f: &mut fmt::Formatter<W>) -> fmt::Result {
-        match self.0 {
-            Ok(y) => {
-                let capacity = layout::measure(y).map_or(0, |numbers| numbers.capacity);
-                write!(f, "done, {}, a file of {capacity} bytes", Shown(y))
-            }
-            Err(Unread::Refused(refusal)) => write!(f, "refused with {refusal}, line 0"),
-            Err(Unread::Malformed(line)) => write!(f, "refused with 12, line {line}"),
+        let read = self.0;
+        let y = read.layout;
+        write!(f, "{}, ", Outcome(read.refusal))?;
+        if read.refusal == 0 {
+            let capacity = Measured::from(layout::measure(y)).numbers.capacity;
+            return write!(f, "{}, a file of {capacity} bytes", Shown(y));
         }
+        write!(f, "line {}", read.line)?;
+        if y != Layout::default() {
+            write!(f, ", NOT zeros, {}", Shown(y))?;
+        }
+        Ok(())
     }
+}
+
+fn is_same_answer(a: Settings, b: Settings) -> bool {
+    a.refusal == b.refusal && a.line == b.line && a.layout == b.layout
 }
 
 // The first bytes of the buffer, as many as are used, by both readers.
 fn read_by_both(rt: &impl Print, what: &str, buffer: &[u8], used: usize) -> io::Result<()> {
-    let new = settings::newest(buffer, used);
-    let old = settings::newest_old(buffer, used);
+    let new = Settings::from(settings::newest(buffer, used));
+    let old = Settings::from(settings::newest_old(buffer, used));
     print!(rt; "{what}: {}", Read(new))?;
-    if new == old {
+    if is_same_answer(new, old) {
         return println!(rt; "; the old reader says the same");
     }
     println!(rt; "; the old reader: {}", Read(old))
@@ -90,9 +99,9 @@ fn fitted(
     buffer: &mut [u8],
     used: usize,
 ) -> io::Result<usize> {
-    let added = settings::add(version, y, buffer, used);
-    let after = added.unwrap_or(used);
-    println!(rt; "{what}: {}, used {after}", Outcome::from(added))?;
+    let added = Added::new(used, settings::add(version, y, buffer, used));
+    let after = added.used;
+    println!(rt; "{what}: {}, used {after}", Outcome(added.refusal))?;
     read_by_both(rt, "The row is read", buffer, after)?;
     Ok(after)
 }
@@ -351,17 +360,13 @@ fn tried<const SIZE: usize>(
 {
     let before = [b'.'; SIZE];
     let mut buffer = before;
-    let added = settings::add(version, y, &mut buffer, used);
+    let added = Added::new(used, settings::add(version, y, &mut buffer, used));
     let after = if buffer == before {
         "is as before"
     } else {
         "has changed"
     };
-    print!(rt;
-        "{what}: {}, used {}",
-        Outcome::from(added),
-        added.unwrap_or(used)
-    )?;
+    print!(rt; "{what}: {}, used {}", Outcome(added.refusal), added.used)?;
     println!(rt; ", the buffer {after}")
 }
 

@@ -1,5 +1,5 @@
 // One layout: its numbers and every call on it, at the ends, at drawn places, and just outside.
-use layout::{Cursor, Entries, Held, Mapped, Placed, Step, Traced};
+use layout::{Cursor, Entries, Held, Mapped, Measured, Placed, Step, Traced};
 use lists::Refusal;
 use numbers::{Layout, Numbers};
 use std::io;
@@ -25,9 +25,9 @@ pub fn head(rt: &impl Print, label: &str, y: Layout) -> io::Result<()> {
 }
 
 pub fn numbers(rt: &impl Print, y: Layout) -> io::Result<Numbers> {
-    let answer = layout::measure(y);
-    let refusal = lists::answer_number(answer);
-    let m = answer.unwrap_or_default();
+    let answer = Measured::from(layout::measure(y));
+    let refusal = answer.refusal;
+    let m = answer.numbers;
     print!(rt; "numbers {refusal} {} {} {} {} ", m.w, m.b, m.l, m.c)?;
     println!(rt; "{} {} {} {}", m.frames, m.groups, m.capacity, m.image)?;
     Ok(m)

@@ -1,5 +1,6 @@
 // The calls on a pool, each printed with its answer, and then the pool.
 use homes::Record;
+use layout::Measured;
 use lists::answer_number;
 use numbers::{Layout, Numbers};
 use pool_count::PanelCounts;
@@ -62,7 +63,7 @@ impl Run {
     pub fn new(y: Layout) -> Self {
         Run {
             y,
-            numbers: layout::measure(y).unwrap_or_default(),
+            numbers: Measured::from(layout::measure(y)).numbers,
             rec: no_failures(),
         }
     }

@@ -2,6 +2,7 @@
 // swapped drives.
 use crate::calls;
 use crate::calls::Run;
+use layout::Placed;
 use numbers::Layout;
 use std::io;
 
@@ -100,7 +101,7 @@ fn five_targets() -> Run {
 
 // The target of a unit of group 0.
 fn target_of(run: Run, unit: u64) -> u64 {
-    layout::find_place(run.y, 0, unit).map_or(0, |at| at.place.target)
+    Placed::from(layout::find_place(run.y, 0, unit)).target
 }
 
 // The run's image in the space, of zeros.

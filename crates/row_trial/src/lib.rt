@@ -6,6 +6,7 @@ use homes::Record;
 use lists::Refusal;
 use numbers::Layout;
 use pool_repair::Mended;
+use settings::Settings;
 use std::{fmt, io};
 use trial::Outcome;
 
@@ -25,7 +26,7 @@ pub fn row_of(u: u64, t: u64) -> Layout {
 // The row's settings as its fitter wrote them, read: units of eight bytes, one tile, so a file of 80 bytes and an image of 160.
 pub fn row() -> Layout {
     let line = b"01 02 01 05 0008 000001 0000000000000007\n";
-    settings::newest(line, line.len()).unwrap_or_default()
+    Settings::from(settings::newest(line, line.len())).layout
 }
 
 pub fn record_of(first: u64, k: u64, q: u64) -> Record {

@@ -6,6 +6,7 @@ ghost use Rattle.std.specs.Prelude.{◌<◌, ◌^◌};
 
 use homes::Record;
 use numbers::Layout;
+use pool_list::ListWritten;
 use row_trial::{get, lose, mend, no_failures, put, record_of, row, row_of, wipe_drive_2};
 use std::{fmt, io};
 use trial::{Ascii, Outcome, checksum, sameness};
@@ -38,13 +39,13 @@ fn list(
     ranges: &[[u64; 2]],
     bytes: &[u8],
 ) -> io::Result<()> {
-    let written = pool_list::write_list(y, r, image, ranges, bytes);
-    let answer = Outcome::from(written.map_err(|refused| refused.refusal));
-    let range = written.err().and_then(|refused| refused.range).unwrap_or(0);
+    let written = ListWritten::from(pool_list::write_list(y, r, image, ranges, bytes));
     print!(rt;
-        "{} bytes to {}: {answer}, range {range}",
+        "{} bytes to {}: {}, range {}",
         bytes.len(),
-        Ranges(ranges)
+        Ranges(ranges),
+        Outcome(written.refusal),
+        written.range
     )?;
     println!(rt; ", {}", sameness(image, other))
 }
