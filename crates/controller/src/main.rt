@@ -274,7 +274,7 @@ fn buffers(rt: &impl Print) -> io::Result<()> {
     lend(rt, &mut [9; 12], 12)
 }
 
-fn main(rt: HostRuntime) -> io::Result<()> {
+fn say_everything(rt: HostRuntime) -> io::Result<()> {
     println!(&rt; "Plans beside plain repair")?;
     let mut image = stored();
     let failed = lose(&rt, no_failures(), &mut image, 2)?;
@@ -289,4 +289,9 @@ fn main(rt: HostRuntime) -> io::Result<()> {
     wrong_pools(&rt)?;
     println!(&rt; "Buffers for a plan")?;
     buffers(&rt)
+}
+
+// Where standard output takes no more, the rest is not shown; the status is 0 all the same.
+fn main(rt: HostRuntime) {
+    let _ = say_everything(rt);
 }

@@ -185,7 +185,7 @@ fn show_slip(rt: &impl Print, y: Layout) -> io::Result<()> {
     }
 }
 
-fn main(rt: HostRuntime) -> io::Result<()> {
+fn say_everything(rt: HostRuntime) -> io::Result<()> {
     println!(rt; "Layout numbers")?;
     show_numbers(&rt, layout_of(4, 2, 20, 1, 1))?;
     show_numbers(&rt, layout_of(1, 0, 1, 1, 1))?;
@@ -204,4 +204,9 @@ fn main(rt: HostRuntime) -> io::Result<()> {
     show_slip(&rt, y)?;
     show_states(&rt, 2, ["state 4", "state 5", "state 6", "state 7"])?;
     show_permutations(&rt, 2)
+}
+
+// Where standard output takes no more, the rest is not shown; the status is 0 all the same.
+fn main(rt: HostRuntime) {
+    let _ = say_everything(rt);
 }

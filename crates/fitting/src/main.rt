@@ -412,7 +412,7 @@ fn several_wrong(rt: &impl Print) -> io::Result<()> {
     tried::<0>(rt, "Used 1 of none", 1, row(), 1)
 }
 
-fn main(rt: HostRuntime) -> io::Result<()> {
+fn say_everything(rt: HostRuntime) -> io::Result<()> {
     println!(&rt; "A row's settings through the years")?;
     through_the_years(&rt)?;
     at_the_bounds(&rt)?;
@@ -427,4 +427,9 @@ fn main(rt: HostRuntime) -> io::Result<()> {
     wrong_numbers(&rt)?;
     rooms(&rt)?;
     several_wrong(&rt)
+}
+
+// Where standard output takes no more, the rest is not shown; the status is 0 all the same.
+fn main(rt: HostRuntime) {
+    let _ = say_everything(rt);
 }

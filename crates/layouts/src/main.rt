@@ -48,7 +48,7 @@ fn show_rows(rt: &impl Print, rows: &[Row], seed: &mut u64) -> io::Result<()> {
     Ok(())
 }
 
-fn main(rt: HostRuntime) -> io::Result<()> {
+fn say_everything(rt: HostRuntime) -> io::Result<()> {
     let mut seed = 20260101;
     show_rows(&rt, &ENDS, &mut seed)?;
     show_rows(&rt, &SMALL, &mut seed)?;
@@ -57,4 +57,9 @@ fn main(rt: HostRuntime) -> io::Result<()> {
         show::whole(&rt, y, &mut seed)?;
     }
     bounds::show_all(&rt)
+}
+
+// Where standard output takes no more, the rest is not shown; the status is 0 all the same.
+fn main(rt: HostRuntime) {
+    let _ = say_everything(rt);
 }

@@ -145,7 +145,7 @@ fn in_the_evening(rt: &impl Print, r: Record, image: &mut [u8; 160]) -> io::Resu
     show(rt, whole, image, 0, &mut [0; 80])
 }
 
-fn main(rt: HostRuntime) -> io::Result<()> {
+fn say_everything(rt: HostRuntime) -> io::Result<()> {
     let mut image = [0u8; 160];
     before_the_rush(&rt, no_failures(), &mut image)?;
     let failed = in_the_rush(&rt, no_failures(), &mut image)?;
@@ -153,4 +153,9 @@ fn main(rt: HostRuntime) -> io::Result<()> {
     let whole = in_the_afternoon(&rt, mended, &mut image)?;
     let another = lose_another(&rt, whole, &mut image)?;
     in_the_evening(&rt, another, &mut image)
+}
+
+// Where standard output takes no more, the rest is not shown; the status is 0 all the same.
+fn main(rt: HostRuntime) {
+    let _ = say_everything(rt);
 }

@@ -168,7 +168,7 @@ fn years_run(
     read_all(rt, run, image, buffer)
 }
 
-fn main(rt: HostRuntime) -> io::Result<()> {
+fn say_everything(rt: HostRuntime) -> io::Result<()> {
     let mut seed = 40260404;
     let mut space = [0; 65536];
     let mut buffer = [0; 65536];
@@ -182,4 +182,9 @@ fn main(rt: HostRuntime) -> io::Result<()> {
         years_run(&rt, i, &mut space, &mut buffer, &mut seed)?;
     }
     Ok(())
+}
+
+// Where standard output takes no more, the rest is not shown; the status is 0 all the same.
+fn main(rt: HostRuntime) {
+    let _ = say_everything(rt);
 }

@@ -209,7 +209,7 @@ fn wrong_pools(rt: &impl Print) -> io::Result<()> {
     unchanged::<160, 7>(rt, y, Record { waiting: 16, ..r }, &ranges)
 }
 
-fn main(rt: HostRuntime) -> io::Result<()> {
+fn say_everything(rt: HostRuntime) -> io::Result<()> {
     with_a_drive_dead(&rt, on_a_sound_row(&rt)?)?;
     nothing_to_write(&rt)?;
     most_ranges(&rt)?;
@@ -217,4 +217,9 @@ fn main(rt: HostRuntime) -> io::Result<()> {
     near_2_to_the_64(&rt)?;
     wrong_buffers(&rt)?;
     wrong_pools(&rt)
+}
+
+// Where standard output takes no more, the rest is not shown; the status is 0 all the same.
+fn main(rt: HostRuntime) {
+    let _ = say_everything(rt);
 }
