@@ -126,12 +126,18 @@ fn inverted(a: [u8; 64]) -> [u8; 64]
     b
 }
 
-// Where target t stands.
+// Where target t stands. One entry after another: the library's search loads sixteen at once, which were stored one by one just before, and takes
+// twice as long.
 fn find(a: &[u8; 64], t: u64) -> Option<usize>
     ensures found { IfSome result (λ i. (i < length a.now) × (at a.now i ≡ t)) }
     ensures none { IsNone result → (k : ℕ) → k < length a.now → at a.now k ≢ t }
 {
-    a.iter().position(|&v| u64::from(v) == t)
+    for i in 0..64 {
+        if u64::from(a[i]) == t {
+            return Some(i);
+        }
+    }
+    None
 }
 
 // The column of one target, by the permutation of its tile: the inverse has 64 entries to fill where one is asked for.
