@@ -71,12 +71,14 @@ fn starts_by<F: Fn(usize) -> usize>(n: usize, start: F) -> [usize; 16]
     r
 }
 
-// Where the n data units begin in the image, from unit offset lo on.
+// Where the n data units begin in the image, from unit offset lo on. Here and below a field is named before it is indexed or captured: the
+// whole plan would be copied else.
 pub fn image_starts(p: Plan, size: usize, lo: usize) -> [usize; 16]
     requires { Fits p size × (lo ≤ p.u) }
     ensures { Begins p lo result }
 {
-    starts_by(p.n, |j| p.at[j] + lo)
+    let at = p.at;
+    starts_by(p.n, |j| at[j] + lo)
 }
 
 // Where the named bytes of the data units begin in the bytes to write.
@@ -85,7 +87,8 @@ fn byte_starts(p: Plan, run: Run) -> [usize; 16]
         × ((j : ℕ) → withinRun run.from run.units j ≡ true → run.bytes_at ≤ run.group_at + (p.u * j + run.lo)) }
     ensures { (j : ℕ) → j < p.n → get_or result j 0 ≡ byte_start p.u run.group_at run.bytes_at run.from run.units run.lo j }
 {
-    starts_by(p.n, |j| run.byte_start(p.u, j))
+    let u = p.u;
+    starts_by(p.n, |j| run.byte_start(u, j))
 }
 
 // Where a missing data unit is kept in the scratch. The start of another is not read.
@@ -113,7 +116,8 @@ fn stores(p: Plan, run: Run, c: usize) -> bool
     requires { (c < p.n) × (p.n ≤ 16) }
     ensures { result ≡ stores_in p (withinRun run.from run.units) c }
 {
-    !p.missing[c] && run.names(c)
+    let missing = p.missing;
+    !missing[c] && run.names(c)
 }
 
 // The bytes of data unit c at its home, where they are named and it is present.
@@ -123,7 +127,8 @@ fn store_unit(p: Plan, image: &mut [u8], bytes: &[u8], starts: [usize; 16], run:
         (run_set (at_of p c + run.lo) run.len (run_of bytes.now (get_or starts c 0)) image.old) image.old }
 {
     if stores(p, run, c) {
-        runs::put_run(image, p.at[c] + run.lo, bytes, starts[c], run.len);
+        let at = p.at;
+        runs::put_run(image, at[c] + run.lo, bytes, starts[c], run.len);
     }
 }
 
@@ -154,11 +159,13 @@ fn put_whole(
     ensures { image.new ≡ pick (standing p i) (run_set (parity_at p lo i) len (whole_parity p bytes.now starts i) image.old) image.old }
 {
     let c = p.n + i;
-    if p.missing[c] {
+    let missing = p.missing;
+    if missing[c] {
         return;
     }
+    let at = p.at;
     let coefs = plan::line(p.codes, i);
-    kernel::combine_put(image, p.at[c] + lo, bytes, &starts, &coefs, p.n, len);
+    kernel::combine_put(image, at[c] + lo, bytes, &starts, &coefs, p.n, len);
 }
 
 fn put_wholes(p: Plan, image: &mut [u8], bytes: &[u8], starts: [usize; 16], lo: usize, len: usize)
@@ -226,10 +233,12 @@ pub fn put_parity(
     ensures { image.new ≡ pick (standing p i) (run_set (parity_at p lo i) len (parity_over p image.old lost.now lo i) image.old) image.old }
 {
     let c = p.n + i;
-    if p.missing[c] {
+    let missing = p.missing;
+    if missing[c] {
         return;
     }
-    let to = p.at[c] + lo;
+    let at = p.at;
+    let to = at[c] + lo;
     let row = plan::line(p.codes, i);
     if p.gone == 0 {
         kernel::combine_in(image, to, &starts, &row, p.n, len);
@@ -264,8 +273,10 @@ fn keep_unit(
     ensures { lost.new ≡ pick (miss_of p c)
         (run_set (rank_place p c) run.len (kept_run p image.now bytes.now starts run.from run.units run.lo c) lost.old) lost.old }
 {
-    if p.missing[c] {
-        let to = p.rank[c] * 4096;
+    let missing = p.missing;
+    if missing[c] {
+        let rank = p.rank;
+        let to = rank[c] * 4096;
         if run.names(c) {
             runs::put_run(lost, to, bytes, starts[c], run.len);
             return;

@@ -7,10 +7,10 @@ use Rattle.updates.specs.Steps.{absent, present}
 use Rattle.updates.specs.Writing.{stores_in}
 use Rattle.updates.proofs.stores.Goals as goal
 
-pub returns-then-not-p-c : goal.returns-then-not-p-c
+pub returns-then-not-missing-c : goal.returns-then-not-missing-c
 unfolding stores_in
-returns-then-not-p-c c = c.names.ensures ∙ sym (present _ _ c.if-not-p-c.true ∙ pick_true _ _ _ (lt-ltb _ _ c.requires.0))
+returns-then-not-missing-c c = c.names.ensures ∙ sym (present _ _ c.if-not-missing-c.true ∙ pick_true _ _ _ (lt-ltb _ _ c.requires.0))
 
-pub returns-else-not-p-c : goal.returns-else-not-p-c
+pub returns-else-not-missing-c : goal.returns-else-not-missing-c
 unfolding stores_in
-returns-else-not-p-c c = ap not c.if-not-p-c.false ∙ sym (absent _ _ c.if-not-p-c.false)
+returns-else-not-missing-c c = ap not c.if-not-missing-c.false ∙ sym (absent _ _ c.if-not-missing-c.false)
