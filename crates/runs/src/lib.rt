@@ -25,14 +25,17 @@ pub fn clear_run(out: &mut [u8], to: usize, len: usize)
     out[to..to + len].fill(0);
 }
 
-// Where the units of the slots begin, from unit offset lo on.
+// Where the units of the slots begin, from unit offset lo on. Here and below a field is named before it is indexed: the whole plan would be copied
+// else.
 fn slot_starts(p: Plan, size: usize, lo: usize) -> [usize; 16]
     requires { Fits p size × (lo ≤ p.u) }
     ensures { (j : ℕ) → j < p.n → get_or result j 0 ≡ at_of p (get_or p.slots j 0) + lo }
 {
+    let at = p.at;
+    let slots = p.slots;
     let mut r = [0usize; 16];
     for j in 0..p.n {
-        r[j] = p.at[p.slots[j]] + lo;
+        r[j] = at[slots[j]] + lo;
     }
     r
 }
@@ -51,7 +54,9 @@ pub fn rebuild_run(
     ensures { out.new ≡ run_set to len (held_run p image.now lo c) out.old }
 {
     let starts = slot_starts(p, image.len(), lo);
-    let row = p.rows[p.rank[c]];
+    let rows = p.rows;
+    let rank = p.rank;
+    let row = rows[rank[c]];
     kernel::combine_put(out, to, image, &starts, &row, p.n, len);
 }
 
@@ -60,11 +65,13 @@ pub fn read_run(p: Plan, image: &[u8], c: usize, lo: usize, out: &mut [u8], to: 
     requires { Fits p (length image.now) × (c < p.n + p.k) × (lo + len ≤ p.u) × (to + len ≤ length out.old) }
     ensures { out.new ≡ run_set to len (held_run p image.now lo c) out.old }
 {
-    if p.missing[c] {
+    let missing = p.missing;
+    if missing[c] {
         rebuild_run(p, image, lo, c, out, to, len);
         return;
     }
-    put_run(out, to, image, p.at[c] + lo, len);
+    let at = p.at;
+    put_run(out, to, image, at[c] + lo, len);
 }
 
 // The unit of the missing content c, rebuilt within the image, at `to`: no unit that the row reads meets it, so that nothing is kept beside the image.
@@ -73,6 +80,8 @@ pub fn mend_run(p: Plan, image: &mut [u8], c: usize, to: usize)
     ensures { image.new ≡ run_set to p.u (held_run p image.old 0 c) image.old }
 {
     let starts = slot_starts(p, image.len(), 0);
-    let coefficients = p.rows[p.rank[c]];
+    let lines = p.rows;
+    let rank = p.rank;
+    let coefficients = lines[rank[c]];
     kernel::combine_in(image, to, &starts, &coefficients, p.n, p.u);
 }

@@ -7,11 +7,11 @@ use Rattle.runs.specs.InPlace.{slots_apart}
 use Rattle.runs.specs.Steps.{lost_made}
 use Rattle.runs.proofs.mend_run.Goals as goal
 
-pub offset_bounds-p-p : goal.offset_bounds-p-p
-offset_bounds-p-p c = omega (arith, rank_lt _ c.requires.0.right _ c.requires.2 c.requires.3)
+pub offset_bounds-lines-rank : goal.offset_bounds-lines-rank
+offset_bounds-lines-rank c = omega (arith, rank_lt _ c.requires.0.right _ c.requires.2 c.requires.3)
 
-pub bounds-p-p : goal.bounds-p-p
-bounds-p-p c = rank_lt _ c.requires.0.right _ c.requires.2 c.requires.3
+pub bounds-lines-rank : goal.bounds-lines-rank
+bounds-lines-rank c = rank_lt _ c.requires.0.right _ c.requires.2 c.requires.3
 
 pub combine_in-requires : goal.combine_in-requires
 combine_in-requires c = let p = c.requires in (

@@ -5,11 +5,11 @@ use Rattle.plan.specs.Held.{rank_lt}
 use Rattle.runs.specs.Steps.{lost_made, slots_fit}
 use Rattle.runs.proofs.rebuild_run.Goals as goal
 
-pub offset_bounds-p-p : goal.offset_bounds-p-p
-offset_bounds-p-p c = omega (arith, rank_lt _ c.requires.0.right _ c.requires.2 c.requires.3)
+pub offset_bounds-rows-rank : goal.offset_bounds-rows-rank
+offset_bounds-rows-rank c = omega (arith, rank_lt _ c.requires.0.right _ c.requires.2 c.requires.3)
 
-pub bounds-p-p : goal.bounds-p-p
-bounds-p-p c = rank_lt _ c.requires.0.right _ c.requires.2 c.requires.3
+pub bounds-rows-rank : goal.bounds-rows-rank
+bounds-rows-rank c = rank_lt _ c.requires.0.right _ c.requires.2 c.requires.3
 
 pub combine_put-requires : goal.combine_put-requires
 combine_put-requires c = (c.requires.0.right.solvable.data_max, c.requires.4, slots_fit _ _ _ _ c.slot_starts-starts.result c.requires.0 c.requires.1 c.slot_starts-starts.ensures)

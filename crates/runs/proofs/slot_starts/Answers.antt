@@ -9,17 +9,17 @@ use Rattle.runs.proofs.slot_starts.Goals as goal
 pub loop-j-init : goal.loop-j-init
 loop-j-init c = (omega arith, refl, below_none _)
 
-pub offset_bounds-p-j : goal.offset_bounds-p-j
-offset_bounds-p-j c = omega (arith, c.requires.0.right.solvable.data_max)
+pub offset_bounds-slots-j : goal.offset_bounds-slots-j
+offset_bounds-slots-j c = omega (arith, c.requires.0.right.solvable.data_max)
 
-pub bounds-p-j : goal.bounds-p-j
-bounds-p-j c = omega (arith, c.requires.0.right.solvable.data_max)
+pub bounds-slots-j : goal.bounds-slots-j
+bounds-slots-j c = omega (arith, c.requires.0.right.solvable.data_max)
 
-pub offset_bounds-p-p : goal.offset_bounds-p-p
-offset_bounds-p-p c = omega (arith, slot_lt c.args.p c.requires.0.right c.loop-j.j c.loop-j-test.true, c.requires.0.right.solvable.data_max, c.requires.0.right.solvable.parity_max)
+pub offset_bounds-at-slots : goal.offset_bounds-at-slots
+offset_bounds-at-slots c = omega (arith, slot_lt c.args.p c.requires.0.right c.loop-j.j c.loop-j-test.true, c.requires.0.right.solvable.data_max, c.requires.0.right.solvable.parity_max)
 
-pub bounds-p-p : goal.bounds-p-p
-bounds-p-p c = omega (arith, slot_lt c.args.p c.requires.0.right c.loop-j.j c.loop-j-test.true, c.requires.0.right.solvable.data_max, c.requires.0.right.solvable.parity_max)
+pub bounds-at-slots : goal.bounds-at-slots
+bounds-at-slots c = omega (arith, slot_lt c.args.p c.requires.0.right c.loop-j.j c.loop-j-test.true, c.requires.0.right.solvable.data_max, c.requires.0.right.solvable.parity_max)
 
 pub overflow_add-r : goal.overflow_add-r
 overflow_add-r c = omega (arith, c.requires.0.inside _ (slot_lt c.args.p c.requires.0.right c.loop-j.j c.loop-j-test.true), c.requires.1)
