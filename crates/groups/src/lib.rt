@@ -116,7 +116,9 @@ pub fn mend_unit(p: Plan, homes: [usize; 19], image: &mut [u8], c: usize)
     requires { Fits p (length image.old) × MendFits p homes (length image.old) × (c < p.n + p.k) }
     ensures { image.new ≡ pick (miss_of p c) (run_set (get_or homes c 0) p.u (held_run p image.old 0 c) image.old) image.old }
 {
-    if p.missing[c] {
+    // The field is named before it is indexed: the whole plan would be copied else.
+    let missing = p.missing;
+    if missing[c] {
         runs::mend_run(p, image, c, homes[c]);
     }
 }

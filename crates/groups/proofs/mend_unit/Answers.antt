@@ -5,4 +5,4 @@ use Rattle.groups.proofs.mend_unit.Goals as goal
 
 pub mend_run-requires : goal.mend_run-requires
 mend_run-requires c = let p = c.requires in
-    (p.0, mend_clear _ _ _ p.1 _ p.2 c.if-p-c.true, omega (arith, p.2), c.if-p-c.true)
+    (p.0, mend_clear _ _ _ p.1 _ p.2 c.if-missing-c.true, omega (arith, p.2), c.if-missing-c.true)
