@@ -121,7 +121,9 @@ pub fn plan_next(last: Plan, at: [usize; 19], missing: [bool; 19]) -> Plan
     ensures { Planned last.n last.k last.u at missing result }
 {
     let contents = last.n + last.k;
-    if last.missing[..contents] == missing[..contents] {
+    // The field is named before it is sliced: the whole plan would be copied else.
+    let flags = last.missing;
+    if flags[..contents] == missing[..contents] {
         return Plan { at, ..last };
     }
     plan_anew(last.n, last.k, last.u, at, missing, last.codes)
