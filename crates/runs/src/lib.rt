@@ -9,12 +9,29 @@ ghost use Rattle.runs.specs.InPlace.{Clear};
 
 use plan::Plan;
 
-// The `len` bytes of `src` from `from` on, in those of `out` from `to` on.
+// At most 128 bytes of `src` from `from` on, in those of `out` from `to` on, by way of an array of their own: the two slices might overlap for all
+// that the compiler knows, and a copy from one to the other would bring `memmove` into the archive for C, which is to need `memcpy` and `memset` alone.
+fn put_piece(out: &mut [u8], to: usize, src: &[u8], from: usize, m: usize)
+    requires { (m ≤ 128) × (to + m ≤ length out.old) × (from + m ≤ length src.now) }
+    ensures { out.new ≡ run_set to m (run_of src.now from) out.old }
+{
+    let mut b = [0u8; 128];
+    b[..m].copy_from_slice(&src[from..from + m]);
+    out[to..to + m].copy_from_slice(&b[..m]);
+}
+
+// The `len` bytes of `src` from `from` on, in those of `out` from `to` on. Whole pieces have the literal 128 for m: once inlined they are eight loads
+// and eight stores.
 pub fn put_run(out: &mut [u8], to: usize, src: &[u8], from: usize, len: usize)
     requires { (to + len ≤ length out.old) × (from + len ≤ length src.now) }
     ensures { out.new ≡ run_set to len (run_of src.now from) out.old }
 {
-    out[to..to + len].copy_from_slice(&src[from..from + len]);
+    let pieces = len / 128;
+    for i in 0..pieces {
+        put_piece(out, to + 128 * i, src, from + 128 * i, 128);
+    }
+    let done = 128 * pieces;
+    put_piece(out, to + done, src, from + done, len - done);
 }
 
 // Zeros in the `len` bytes of `out` from `to` on.
