@@ -9,29 +9,47 @@ ghost use Rattle.runs.specs.InPlace.{Clear};
 
 use plan::Plan;
 
-// At most 128 bytes of `src` from `from` on, in those of `out` from `to` on, by way of an array of their own: the two slices might overlap for all
-// that the compiler knows, and a copy from one to the other would bring `memmove` into the archive for C, which is to need `memcpy` and `memset` alone.
-fn put_piece(out: &mut [u8], to: usize, src: &[u8], from: usize, m: usize)
-    requires { (m ≤ 128) × (to + m ≤ length out.old) × (from + m ≤ length src.now) }
-    ensures { out.new ≡ run_set to m (run_of src.now from) out.old }
+// A piece of M bytes of `src` from `from` on, in those of `out` from `to` on, by way of an array of its own. The compiler knows M, so that a piece is a
+// few loads and as many stores. The two slices might overlap for all that it knows: a copy from one to the other whose length it doesn't know, in one
+// step or in two, would bring `memmove` into the archive for C, which is to need `memcpy` and `memset` alone.
+fn put_piece<const M: usize>(out: &mut [u8], to: usize, src: &[u8], from: usize)
+    requires { (to + M ≤ length out.old) × (from + M ≤ length src.now) }
+    ensures { out.new ≡ run_set to M (run_of src.now from) out.old }
 {
-    let mut b = [0u8; 128];
-    b[..m].copy_from_slice(&src[from..from + m]);
-    out[to..to + m].copy_from_slice(&b[..m]);
+    let mut b = [0u8; M];
+    b.copy_from_slice(&src[from..from + M]);
+    out[to..to + M].copy_from_slice(&b);
 }
 
-// The `len` bytes of `src` from `from` on, in those of `out` from `to` on. Whole pieces have the literal 128 for m: once inlined they are eight loads
-// and eight stores.
+// As many whole pieces of M bytes as there are in `len`; the answer is how many bytes they are.
+fn put_pieces<const M: usize>(
+    out: &mut [u8],
+    to: usize,
+    src: &[u8],
+    from: usize,
+    len: usize,
+) -> usize
+    requires { (0 < M) × (to + len ≤ length out.old) × (from + len ≤ length src.now) }
+    ensures { (result ≤ len) × (len < result + M) × (out.new ≡ run_set to result (run_of src.now from) out.old) }
+{
+    let mut done = 0;
+    // No `for`: what is left begins where the last whole piece ended.
+    while M <= len - done {
+        put_piece::<M>(out, to + done, src, from + done);
+        done += M;
+    }
+    done
+}
+
+// The `len` bytes of `src` from `from` on, in those of `out` from `to` on: pieces of 128, eight loads and eight stores each, then of 8, and at most
+// seven bytes one by one.
 pub fn put_run(out: &mut [u8], to: usize, src: &[u8], from: usize, len: usize)
     requires { (to + len ≤ length out.old) × (from + len ≤ length src.now) }
     ensures { out.new ≡ run_set to len (run_of src.now from) out.old }
 {
-    let pieces = len / 128;
-    for i in 0..pieces {
-        put_piece(out, to + 128 * i, src, from + 128 * i, 128);
-    }
-    let done = 128 * pieces;
-    put_piece(out, to + done, src, from + done, len - done);
+    let wide = put_pieces::<128>(out, to, src, from, len);
+    let words = wide + put_pieces::<8>(out, to + wide, src, from + wide, len - wide);
+    put_pieces::<1>(out, to + words, src, from + words, len - words);
 }
 
 // Zeros in the `len` bytes of `out` from `to` on.

@@ -17,8 +17,8 @@ put_as to len m f l s i same h e =
 
 pub returns : goal.returns
 unfolding run_of
-returns c = let a = c.args in
+returns g c = let a = c.args in
     let first = c.copy_from_slice.ensures.after in
     let second = c.copy_from_slice-2.ensures.after in
-    put_as a.to a.m _ (run_of a.src.now a.from) a.out.now _ (omega arith) (rw second (rw first (search (arith, places)))) c.requires.1
+    put_as a.to g.row.M _ (run_of a.src.now a.from) a.out.now _ (omega arith) (rw second (rw first (search (arith, places)))) c.requires.0
     (λ o b. rw second (rw first (search (arith, places))))
